@@ -1,0 +1,117 @@
+-- A station's steps: document 01, "A station's steps". A station's row alone says its next operation, and the row with what the
+-- operation brought says the next row. `i` is the station's number and `N` the number of levels.
+use Prim.Native.Nat.{ℕ, zero, suc, _+_}
+use mathlib.Core.Bool.{Bool, true, false, cond, _||_}
+use lib.Dec.{ltb, eqb}
+use Rattle.sets.specs.Mask.{size, union, alone, memberAfter}
+use Rattle.sets.specs.Arrays.{arrayLength, ownArray, otherArray}
+use Rattle.method.specs.declared.Reading.{Reading}
+use Rattle.method.specs.declared.Side.{Side}
+use Rattle.method.specs.declared.Side.the-variants.{Own, Other}
+use Rattle.method.specs.declared.Round.{Round}
+use Rattle.method.specs.declared.Round.the-variants.{First, Unchanged, Changed}
+use Rattle.method.specs.declared.State.{State}
+use Rattle.method.specs.declared.State.the-variants.{NotBegun, Uniting, Gathering, Settled}
+use Rattle.method.specs.declared.Op.{Op}
+use Rattle.method.specs.declared.Op.the-variants.{Post, Write, Read, ReadLine, Rest}
+
+-- ---- 3. "For each station in S, ascending, itself included, read its line X. The settled set is the union of what was read."
+
+-- the next line to read is that of station j; none is left where j is 0
+abbrev pub gatherAt : Bool → ℕ → ℕ → ℕ → State
+gatherAt true S j got = Settled S got
+gatherAt false S j got = Gathering S j got
+
+-- the lines up to station i's are read, and their union is `got`
+unfoldable pub gather : ℕ → ℕ → ℕ → State
+gather S i got = gatherAt (eqb (memberAfter S i) 0) S (memberAfter S i) got
+
+-- ---- 2. "Start with the set S of itself alone. For k from 1 to N: .. S becomes the result of the union over the two."
+
+abbrev pub reading : ℕ → ℕ → Reading
+reading M known = record { set = M; known = known }
+
+-- S is what level k gave (level 0: the station alone). On to the next level, where nothing is known of the two arrays, or to step 3.
+unfoldable pub climb : ℕ → ℕ → ℕ → State
+climb N k S = cond (ltb k N) (Uniting (k + 1) (reading S 0) (reading 0 0) Own First) (gather S 0 0)
+
+-- ---- Reading an array from a set M
+
+-- Whether (M, known) is still written: "write S to registers 1 to size(S)", and of a T that was found "write T to the registers from
+-- size(M)+2 to size(T), ascending". One rule for both: M goes to each register that is not known to be filled, up to size(M).
+unfoldable pub writing : Reading → Bool
+writing r = ltb (r .known) (size (r .set))
+
+-- "if size(M) is the array's length, the answer is M with no operation": the reading has an operation left
+unfoldable pub pending : ℕ → Reading → Bool
+pending k r = writing r || ltb (size (r .set)) (arrayLength k)
+
+-- the next operation: write M to the first register that is not known, or "read register size(M)+1"
+abbrev pub reachAt : Bool → ℕ → ℕ → Reading → Op
+reachAt true k c r = Write k c (r .known + 1) (r .set)
+reachAt false k c r = Read k c (size (r .set) + 1)
+
+unfoldable pub reach : ℕ → ℕ → Reading → Op
+reach k c r = reachAt (writing r) k c r
+
+-- after a write; and "if it holds T .. go on from T"
+abbrev pub wrote : Reading → Reading
+wrote r = reading (r .set) (r .known + 1)
+
+abbrev pub found : Reading → ℕ → Reading
+found r T = reading T (size (r .set) + 1)
+
+-- ---- Union
+
+-- "Then read own and other again, in that order, each from its last result. If neither changed, the answer is their union."
+unfoldable pub again : ℕ → ℕ → Reading → Reading → State
+again N k own other =
+    cond (pending k own) (Uniting k own other Own Unchanged)
+    (cond (pending k other) (Uniting k own other Other Unchanged) (climb N k (union (own .set) (other .set))))
+
+-- own and other are read. "Otherwise the new results become the last ones and it reads again."
+unfoldable pub roundOver : ℕ → ℕ → Reading → Reading → Round → State
+roundOver N k own other First = again N k own other
+roundOver N k own other Unchanged = climb N k (union (own .set) (other .set))
+roundOver N k own other Changed = again N k own other
+
+-- the other array is read, from its last result
+unfoldable pub readOther : ℕ → ℕ → Reading → Reading → Round → State
+readOther N k own other round = cond (pending k other) (Uniting k own other Other round) (roundOver N k own other round)
+
+-- the own array is read, and then the other
+unfoldable pub readOwn : ℕ → ℕ → Reading → Reading → Round → State
+readOwn N k own other round = cond (pending k own) (Uniting k own other Own round) (readOther N k own other round)
+
+-- a reading that found something has changed; a first reading stays the first
+abbrev pub changed : Round → Round
+changed First = First
+changed Unchanged = Changed
+changed Changed = Changed
+
+-- what an operation on the own array, or on the other, brought: v is what was read, empty or a set T, and nothing for a write
+unfoldable pub absorbOwn : ℕ → ℕ → Reading → Reading → Round → ℕ → State
+absorbOwn N k own other round v =
+    cond (writing own) (readOwn N k (wrote own) other round)
+    (cond (eqb v 0) (readOther N k own other round) (readOwn N k (found own v) other (changed round)))
+
+unfoldable pub absorbOther : ℕ → ℕ → Reading → Reading → Round → ℕ → State
+absorbOther N k own other round v =
+    cond (writing other) (readOther N k own (wrote other) round)
+    (cond (eqb v 0) (roundOver N k own other round) (readOther N k own (found other v) (changed round)))
+
+-- ---- The station's next operation, and its state after what that brought
+
+unfoldable pub nextOp : ℕ → State → Op
+nextOp i (NotBegun stocks) = Post stocks
+nextOp i (Uniting k own other Own round) = reach k (ownArray k i) own
+nextOp i (Uniting k own other Other round) = reach k (otherArray k i) other
+nextOp i (Gathering S j got) = ReadLine j
+nextOp i (Settled S got) = Rest
+
+unfoldable pub absorb : ℕ → ℕ → State → ℕ → State
+absorb N i (NotBegun stocks) v = climb N 0 (alone i)
+absorb N i (Uniting k own other Own round) v = absorbOwn N k own other round v
+absorb N i (Uniting k own other Other round) v = absorbOther N k own other round v
+absorb N i (Gathering S j got) v = gather S j (union got v)
+absorb N i (Settled S got) v = Settled S got

@@ -1,0 +1,25 @@
+-- The arrays of a level, in document 01's numbers: levels, arrays and registers are counted from 1.
+-- Executable.
+use Prim.Native.Nat.{ℕ, zero, suc, _+_, _-_, _*_, _/_, _%_, _^_}
+use mathlib.Core.Bool.{Bool, true, false}
+use lib.Dec.{eqb}
+
+-- "Level k is cut into arrays of 2^(k-1) registers"
+unfoldable pub arrayLength : ℕ → ℕ
+arrayLength k = 2 ^ (k - 1)
+
+-- "let g be i/2^(k-1) rounded up": the own array of station i
+unfoldable pub ownArray : ℕ → ℕ → ℕ
+ownArray k i = (i + arrayLength k - 1) / arrayLength k
+
+-- "the other is g+1 for odd g and g-1 for even g"
+abbrev pub neighbour : Bool → ℕ → ℕ
+neighbour true g = g + 1
+neighbour false g = g - 1
+
+unfoldable pub otherArray : ℕ → ℕ → ℕ
+otherArray k i = neighbour (eqb (ownArray k i % 2) 1) (ownArray k i)
+
+-- where register j of array c stands in its level's row, from 1: array c serves the stations after (c-1)·2^(k-1)
+unfoldable pub place : ℕ → ℕ → ℕ → ℕ
+place k c j = (c - 1) * arrayLength k + j

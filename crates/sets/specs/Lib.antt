@@ -1,0 +1,3 @@
+-- Sets of stations and of stocks, and the arrays of a level.
+pub mod Mask
+pub mod Arrays

@@ -1,0 +1,36 @@
+-- A set as a mask: station or stock number i, counted from 1, is the binary digit 2 ^ (i - 1).
+-- Executable; no width is built in.
+use Prim.Native.Nat.{ℕ, zero, suc, _+_, _-_, _/_, _%_, _^_}
+use mathlib.Core.Bool.{Bool, true, false}
+use lib.Dec.{eqb}
+use lib.Bits.{bitOr}
+use lib.Count.{ones}
+
+-- "Size means the number of stations in a set."
+abbrev pub size : ℕ → ℕ
+size s = ones s
+
+-- the set of those that are in one or in the other
+abbrev pub union : ℕ → ℕ → ℕ
+union a b = bitOr a b
+
+-- the set of i alone
+abbrev pub alone : ℕ → ℕ
+alone i = 2 ^ (i - 1)
+
+-- binary digit d of s, from 0
+abbrev pub bit : ℕ → ℕ → ℕ
+bit s d = s / 2 ^ d % 2
+
+-- whether i is in the set
+unfoldable pub holds : ℕ → ℕ → Bool
+holds s i = eqb (bit s (i - 1)) 1
+
+-- the first member of s from i on, looking at no more than `most` numbers; 0 where there is none
+unfoldable pub memberFrom : ℕ → ℕ → ℕ → ℕ
+memberFrom zero s i = 0
+memberFrom (suc most) s i = elim (holds s i) [ true ↦ i | false ↦ memberFrom most s (suc i) ]
+
+-- the next member of s above i, ascending, or 0 where i is above or at the last: s has no member above s
+unfoldable pub memberAfter : ℕ → ℕ → ℕ
+memberAfter s i = elim (eqb (s / 2 ^ i) 0) [ true ↦ 0 | false ↦ memberFrom s s (suc i) ]
