@@ -1,8 +1,8 @@
 -- A set as a mask: station or stock number i, counted from 1, is the binary digit 2 ^ (i - 1).
 -- Executable; no width is built in.
 use Prim.Native.Nat.{ℕ, zero, suc, _+_, _-_, _/_, _%_, _^_}
-use mathlib.Core.Bool.{Bool, true, false}
-use lib.Dec.{eqb}
+use mathlib.Core.Bool.{Bool, true, false, cond, _&&_}
+use lib.Dec.{eqb, leb}
 use lib.Bits.{bitOr}
 use lib.Count.{ones}
 
@@ -18,13 +18,18 @@ union a b = bitOr a b
 abbrev pub alone : ℕ → ℕ
 alone i = 2 ^ (i - 1)
 
+-- the same as a machine word of w digits has it: a number that is not from 1 to w is in no set
+abbrev pub aloneIn : ℕ → ℕ → ℕ
+aloneIn w i = cond (leb 1 i && leb i w) (alone i) 0
+
 -- binary digit d of s, from 0
 abbrev pub bit : ℕ → ℕ → ℕ
 bit s d = s / 2 ^ d % 2
 
 -- whether i is in the set
 unfoldable pub holds : ℕ → ℕ → Bool
-holds s i = eqb (bit s (i - 1)) 1
+holds s zero = false
+holds s (suc d) = eqb (bit s d) 1
 
 -- the first member of s from i on, looking at no more than `most` numbers; 0 where there is none
 unfoldable pub memberFrom : ℕ → ℕ → ℕ → ℕ
