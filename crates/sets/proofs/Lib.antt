@@ -3,3 +3,4 @@ pub mod Members
 pub mod Spans
 pub mod Digits
 pub mod Subset
+pub mod Blocks
