@@ -1,3 +1,4 @@
 -- Demand 3, proved of the definitions: the statements are in Demand3.
 pub mod Brought
 pub mod Potential
+pub mod Rows
