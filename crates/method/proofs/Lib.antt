@@ -2,3 +2,5 @@
 pub mod Brought
 pub mod Potential
 pub mod Rows
+pub mod Gathering
+pub mod Moves

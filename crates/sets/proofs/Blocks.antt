@@ -31,10 +31,7 @@ other-block d e = rw own-block (go (e / 2 ^ d) (eqb (suc (e / 2 ^ d) % 2) 1) ref
   where
     go : (b : ℕ) (t : Bool) → eqb (suc b % 2) 1 ≡ t → neighbour t (suc b) ≡ suc (sibling b)
     go b true q = let h : suc b % 2 ≡ 1 = eqb-true _ _ q in omega arith
-    go b false q = let h : suc b % 2 ≡ 1 → ⊥ = eqb-false _ _ q in go′ h
-      where
-        go′ : (suc b % 2 ≡ 1 → ⊥) → suc b - 1 ≡ suc (sibling b)
-        go′ h = omega arith
+    go b false q = let h : suc b % 2 ≡ 1 → ⊥ = eqb-false _ _ q in omega arith
 
 -- the block at the next level
 pub block-above : (d e : ℕ) → e / 2 ^ suc d ≡ e / 2 ^ d / 2

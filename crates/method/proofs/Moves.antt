@@ -1,0 +1,1 @@
+-- What holds of a station's row holds after each private move, at one moment.
