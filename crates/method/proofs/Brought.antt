@@ -6,7 +6,9 @@ use Prim.Native.Nat.{ℕ, zero, suc, _+_, _-_, _*_, _/_, _%_, _^_, _≤_, _<_, z
 use native.Mathlib.Nat.{le-trans, le-refl, div-one, pow-suc, div-div-eq-div-mul}
 use native.Mathlib.Decide.{decLe, decLt, le-ind}
 use native.Mathlib.Omega.{arith}
+use lib.Bits.{or-comm}
 use Rattle.sets.specs.Mask.{size, union, bit}
+use Rattle.sets.proofs.Blocks.{sibling}
 use Rattle.sets.proofs.Members.{bit-cases}
 use Rattle.sets.proofs.Digits.{bit-none, bit-union, bit-alone-only}
 use Rattle.sets.proofs.Subset.{Inside, inside-refl, none-inside, union-mono, smaller-inside, size-none, size-alone, size-union}
@@ -60,6 +62,20 @@ brought-posted {P = P} (joined {A = A} {B = B} l r x y) e h = go (λ a. brought-
     go : (bit A e ≡ 1 → P e) → (bit B e ≡ 1 → P e) → (bit A e ≡ 0) ⊎ (bit A e ≡ 1) → P e
     go f g (inl z) = g (omega (arith, bit-union A B e))
     go f g (inr o) = f o
+
+-- two neighbours' sets, of which either may be the left one
+pub join : {m : History} {P : ℕ → Type 0} {d A B u : ℕ} (b : ℕ) → Brought m P d b A → Brought m P d (sibling b) B → Stood m u d b A
+    → Stood m u d (sibling b) B → Brought m P (suc d) (b / 2) (union A B)
+join {m} {P} {d} {A} {B} {u} b l r x y = go (b % 2) refl
+  where
+    sides : (c a : ℕ) → b ≡ c → sibling b ≡ a → Brought m P d c A × Brought m P d a B × Stood m u d c A × Stood m u d a B
+    sides c a p q = (rw p at l, rw q at r, rw p at x, rw q at y)
+
+    go : (w : ℕ) → b % 2 ≡ w → Brought m P (suc d) (b / 2) (union A B)
+    go zero e = let f = sides (2 * (b / 2)) (2 * (b / 2) + 1) (omega arith) (omega arith) in joined (f .0) (f .1) (f .2) (f .3)
+    go (suc w) e =
+        let f = sides (2 * (b / 2) + 1) (2 * (b / 2)) (omega arith) (omega arith) in
+        subst (λ (S : ℕ). Brought m P (suc d) (b / 2) S) (or-comm B A) (joined (f .1) (f .0) (f .3) (f .2))
 
 module _ {m : History} (board : Lasting m) where
   stays-filled : (u v d b p : ℕ) → u ≤ v → 0 < m u d b p → 0 < m v d b p
