@@ -27,9 +27,24 @@ use Rattle.method.specs.declared.State.the-variants.{NotBegun, Uniting, 
 use Rattle.method.specs.Steps.{gatherAt, gather, reading, climb, writing, pending, wrote, found, again, roundOver, readOther, readOwn, changed, absorbOwn, absorbOther}
 use Rattle.method.specs.Demand.{gathered}
 use Rattle.method.proofs.Brought.{History, Lasting, Full, Stop, Stood, Brought, join, brought-size, brought-posted, brought-nothing, comparable, stop-earlier}
-use Rattle.method.proofs.Potential.{left, left-start, left-mono, left-own-found, left-own-written, left-other-found, left-own-empty, left-other-empty}
+use Rattle.method.proofs.Potential.{left, left-start, left-mono, left-own-found, left-own-written, left-other-found, left-other-written, left-own-empty, left-other-empty}
 use Rattle.method.proofs.Rows.{Read, Written, calm, Seen, own-open, other-open, own-calm, other-calm, rest, due, at, Pair, Spent, RowOk, begins, unites, gathers, settled}
 use Rattle.method.proofs.Gathering.{gathered-member, gathered-same}
+
+-- a round that has found something is not calm
+reopened : (round : Round) → calm (changed round) ≡ false
+reopened First = refl
+reopened Unchanged = refl
+reopened Changed = refl
+
+-- an empty register of own is read, and one of other
+own-read : (w : Bool) → suc (due Other w) / 2 ≡ suc (due Other w / 2)
+own-read true = refl
+own-read false = refl
+
+other-read : (w : Bool) → (due Other w + 1) / 2 ≡ suc ((rest w + 1) / 2)
+other-read true = refl
+other-read false = refl
 
 -- one operation more, or none, where the potential allows it
 spend : {d e f k j k' j' c : ℕ} → suc (left (2 ^ d) e k j) ≤ left (2 ^ d) f k' j' → Spent d f k' j' c → Spent d e k j (suc c)
@@ -209,3 +224,102 @@ module _ (N n : ℕ) (inputs : List ℕ) {m : History} (board : Lasting m) {P : 
         go : (w : Bool) → pending (suc d) own ≡ w → Ok (cond w (Uniting (suc d) own other Own round) (readOther N (suc d) own other round)) c
         go true q = unites pair s q k
         go false q = other-on round (own-ended s (over (pair .ours) q) (full-up (pair .ours) q t)) (less k)
+
+  -- ---- what an operation brought
+
+  module _ {d : ℕ} {own other : Reading} (pair : Pair N m P t e d own other) where
+    other-written : {w : Bool} → Seen m t d (e / 2 ^ d) (sibling (e / 2 ^ d)) own other Own w → Written other
+    other-written (own-open x) = x
+    other-written (own-calm x y l f g) = y
+
+    own-written : {w : Bool} → Seen m t d (e / 2 ^ d) (sibling (e / 2 ^ d)) own other Other w → Written own
+    own-written (other-open x) = x
+    own-written (other-calm x y l f g) = x
+
+    -- a round in which something is written is not calm
+    write-own : {w : Bool} {c : ℕ} → Seen m t d (e / 2 ^ d) (sibling (e / 2 ^ d)) own other Own w → own .known < size (own .set)
+        → Spent d (due Own w) (own .known) (other .known) c
+        → Seen m t d (e / 2 ^ d) (sibling (e / 2 ^ d)) (wrote own) other Own w × Spent d (due Own w) (own .known + 1) (other .known) (suc c)
+    write-own (own-open x) h k =
+        let l : own .known < 2 ^ d = omega (arith, brought-size (pair .ours .brought)) in
+        (own-open x, rw add-one (spend (left-own-written (2 ^ d) (own .known) (other .known) l) k))
+    write-own (own-calm x y l f g) h k = absurd (omega (arith, x .all))
+
+    write-other : {w : Bool} {c : ℕ} → Seen m t d (e / 2 ^ d) (sibling (e / 2 ^ d)) own other Other w → other .known < size (other .set)
+        → Spent d (due Other w) (own .known) (other .known) c
+        → Seen m t d (e / 2 ^ d) (sibling (e / 2 ^ d)) own (wrote other) Other w × Spent d (due Other w) (own .known) (other .known + 1) (suc c)
+    write-other (other-open x) h k =
+        let l : other .known < 2 ^ d = omega (arith, brought-size (pair .theirs .brought)) in
+        (other-open x, rw add-one (spend (left-other-written (2 ^ d) (own .known) (other .known) l) k))
+    write-other (other-calm x y l f g) h k = absurd (omega (arith, y .all))
+
+    -- one in which something is found is not calm any more
+    known-some : Written own → 0 < own .known
+    known-some w = rw (w .all) (member-counts (own .set) e (pair .self))
+
+    find-own : {c j : ℕ} (round : Round) → Written own → size (own .set) < 2 ^ d → Spent d (due Own (calm round)) (own .known) j c
+        → Spent d (due Own (calm (changed round))) (size (own .set) + 1) j (suc c)
+    find-own {c} {j} round w h k =
+        let l : own .known < 2 ^ d = omega (arith, w .all) in
+        let x = left-own-found (2 ^ d) (own .known) j (known-some w) l in
+        let y = left-mono (2 ^ d) 2 (due Own (calm round)) (own .known) j (omega arith) in
+        rw (reopened round, add-one, ← (w .all)) (spend (le-trans x y) k)
+
+    find-other : {c i : ℕ} (round : Round) → Written other → size (other .set) < 2 ^ d → Spent d (due Other (calm round)) i (other .known) c
+        → Spent d (due Other (calm (changed round))) i (size (other .set) + 1) (suc c)
+    find-other {c} {i} round w h k =
+        let l : other .known < 2 ^ d = omega (arith, w .all) in
+        let x = left-other-found (2 ^ d) i (other .known) l in
+        let y = left-mono (2 ^ d) 1 (due Other (calm round)) i (other .known) (omega arith) in
+        rw (reopened round, add-one, ← (w .all)) (spend (le-trans x y) k)
+
+    module _ (holds : BoardOk m P t) {c : ℕ} (round : Round) (v : ℕ) where
+      pub absorb-own : Seen m t d (e / 2 ^ d) (sibling (e / 2 ^ d)) own other Own (calm round) → pending (suc d) own ≡ true
+          → Spent d (due Own (calm round)) (own .known) (other .known) c → Answer m t d (e / 2 ^ d) own v → Ok (absorbOwn N (suc d) own other round v) (suc c)
+      unfolding absorbOwn writing
+      absorb-own s p k a = go (writing own) refl (eqb v 0) refl
+        where
+          go : (w : Bool) → writing own ≡ w → (z : Bool) → eqb v 0 ≡ z
+              → Ok (cond w (readOwn N (suc d) (wrote own) other round)
+                (cond z (readOther N (suc d) own other round) (readOwn N (suc d) (found own v) other (changed round)))) (suc c)
+          go true w z q =
+              let x = write-own s (ltb-true (own .known) (size (own .set)) w) k in
+              own-on record { within = pair .within; ours = wrote-read (pair .ours) v a w; theirs = pair .theirs; self = pair .self } round (x .0) (x .1)
+          go false w true q =
+              let x = written (pair .ours) w in
+              let l : own .known < 2 ^ d = omega (arith, pending-read d own p w, x .all) in
+              other-on pair round (own-ended pair s x (stops (pair .ours) v a w (eqb-true v 0 q)))
+              (spend (left-own-empty (2 ^ d) (due Other (calm round)) (own .known) (other .known) (own-read (calm round)) (known-some x) l) k)
+          go false w false q =
+              let h = pending-read d own p w in
+              let r = found-read (pair .ours) holds v a w h (eqb-false v 0 q) in
+              let larger : size (own .set) ≤ size v = omega (arith, r .known) in
+              own-on record {
+                within = pair .within;
+                ours = r;
+                theirs = pair .theirs;
+                self = member-inside e (smaller-inside (comparable board (pair .ours .brought) (r .brought)) larger) (pair .self);
+              } (changed round) (rw (reopened round) (own-open (other-written s))) (find-own round (written (pair .ours) w) h k)
+
+      pub absorb-other : Seen m t d (e / 2 ^ d) (sibling (e / 2 ^ d)) own other Other (calm round) → pending (suc d) other ≡ true
+          → Spent d (due Other (calm round)) (own .known) (other .known) c → Answer m t d (sibling (e / 2 ^ d)) other v
+          → Ok (absorbOther N (suc d) own other round v) (suc c)
+      unfolding absorbOther writing
+      absorb-other s p k a = go (writing other) refl (eqb v 0) refl
+        where
+          go : (w : Bool) → writing other ≡ w → (z : Bool) → eqb v 0 ≡ z
+              → Ok (cond w (readOther N (suc d) own (wrote other) round)
+                (cond z (roundOver N (suc d) own other round) (readOther N (suc d) own (found other v) (changed round)))) (suc c)
+          go true w z q =
+              let x = write-other s (ltb-true (other .known) (size (other .set)) w) k in
+              other-on record { within = pair .within; ours = pair .ours; theirs = wrote-read (pair .theirs) v a w; self = pair .self } round (x .0) (x .1)
+          go false w true q =
+              let x = written (pair .theirs) w in
+              let l : other .known < 2 ^ d = omega (arith, pending-read d other p w, x .all) in
+              over-on pair round s x (stops (pair .theirs) v a w (eqb-true v 0 q))
+              (spend (left-other-empty (2 ^ d) (rest (calm round)) (own .known) (other .known) (other-read (calm round)) l) k)
+          go false w false q =
+              let h = pending-read d other p w in
+              let r = found-read (pair .theirs) holds v a w h (eqb-false v 0 q) in
+              other-on record { within = pair .within; ours = pair .ours; theirs = r; self = pair .self } (changed round)
+              (rw (reopened round) (other-open (own-written s))) (find-other round (written (pair .theirs) w) h k)

@@ -91,6 +91,9 @@ pub left-other-found : (L k j : ℕ) → j < L → suc (left L 3 k (suc j)) ≤ 
 unfolding left
 left-other-found L k j h = rw (fewer-other L j h) (omega (arith, other-known (L - max 1 k) (L - suc j)))
 
+pub left-other-written : (L k j : ℕ) → j < L → suc (left L 3 k (suc j)) ≤ left L 3 k j
+left-other-written L k j h = le-trans (left-other-found L k j h) (left-mono L 1 3 k j (omega arith))
+
 pub left-own-empty : (L e k j : ℕ) → suc e / 2 ≡ suc (e / 2) → 0 < k → k < L → suc (left L e k j) ≤ left L (suc e) k j
 unfolding left
 left-own-empty L e k j q p h = rw (fewer L k p h) (omega (arith, own-empty e (L - max 1 (suc k)) (L - j) q))
