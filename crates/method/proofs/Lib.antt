@@ -4,3 +4,5 @@ pub mod Potential
 pub mod Rows
 pub mod Gathering
 pub mod Moves
+pub mod Parts
+pub mod Turns

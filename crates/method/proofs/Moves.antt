@@ -4,17 +4,18 @@ use mathlib.Core.Bool.{Bool, true, false, cond, _||_, true≢false}
 use mathlib.Core.List.{List}
 use mathlib.Core.Logic.{_⊎_, inl, inr}
 use Prim.Native.Nat.{ℕ, zero, suc, _+_, _-_, _*_, _/_, _%_, _^_, _≤_, _<_, zero-le}
-use native.Mathlib.Nat.{le-refl, le-trans, div-eq-of-lt, lt-of-lt-of-le, eq-or-lt-of-le, le-of-suc-le-suc}
+use native.Mathlib.Nat.{le-refl, le-trans, div-one, div-eq-of-lt, lt-of-lt-of-le, eq-or-lt-of-le, le-of-suc-le-suc}
 use native.Mathlib.Numerals.{add-one}
 use native.Mathlib.Omega.{arith}
 use borrow.Author.Tests.{ltb-true, ltb-false, lt-ltb, eqb-true, eqb-false}
 use lib.Bits.{or-comm}
 use lib.Dec.{ltb, eqb, eqb·suc-zero}
+use lib.ListN.{getD}
 use lib.Pow.{pow-pos}
-use Rattle.sets.specs.Mask.{size, union, bit, memberAfter}
+use Rattle.sets.specs.Mask.{size, union, alone, bit, memberAfter}
 use Rattle.sets.specs.Arrays.{arrayLength}
 use Rattle.sets.proofs.Members.{Next, after-none, after-next}
-use Rattle.sets.proofs.Digits.{bit-union}
+use Rattle.sets.proofs.Digits.{bit-alone}
 use Rattle.sets.proofs.Subset.{smaller-inside, member-inside, union-left, size-none, member-counts, counted}
 use Rattle.sets.proofs.Blocks.{sibling, block-length, block-above}
 use Rattle.method.specs.declared.Reading.{Reading}
@@ -26,7 +27,7 @@ use Rattle.method.specs.declared.State.{State}
 use Rattle.method.specs.declared.State.the-variants.{NotBegun, Uniting, Gathering, Settled}
 use Rattle.method.specs.Steps.{gatherAt, gather, reading, climb, writing, pending, wrote, found, again, roundOver, readOther, readOwn, changed, absorbOwn, absorbOther}
 use Rattle.method.specs.Demand.{gathered}
-use Rattle.method.proofs.Brought.{History, Lasting, Full, Stop, Stood, Brought, join, brought-size, brought-posted, brought-nothing, comparable, stop-earlier}
+use Rattle.method.proofs.Brought.{History, Lasting, Full, Stop, Stood, Brought, single, join, brought-size, brought-posted, brought-nothing, comparable, stop-earlier}
 use Rattle.method.proofs.Potential.{left, left-start, left-mono, left-own-found, left-own-written, left-other-found, left-other-written, left-own-empty, left-other-empty}
 use Rattle.method.proofs.Rows.{Read, Written, calm, Seen, own-open, other-open, own-calm, other-calm, rest, due, at, Pair, Spent, RowOk, begins, unites, gathers, settled}
 use Rattle.method.proofs.Gathering.{gathered-member, gathered-same}
@@ -167,6 +168,18 @@ module _ (N n : ℕ) (inputs : List ℕ) {m : History} (board : Lasting m) {P : 
           let x : d ≡ N = omega (arith, ltb-false d N q) in
           let y : e / 2 ^ N ≡ 0 = div-eq-of-lt (lt-of-lt-of-le (few e (brought-posted b e s)) small) in
           gather-on (rw (x, y) at b) s refl zero-le (omega (arith, ap (λ (z : ℕ). 2 ^ z) x))
+
+  -- the station's own line is posted, and a line of the set is read
+  pub absorb-post : P e → Ok (climb N 0 (alone (suc e))) 1
+  absorb-post p = climb-on zero-le (rw (div-one, sub) (single p)) (rw sub (bit-alone e)) (omega arith)
+    where
+      sub : suc e - 1 ≡ e
+      sub = omega arith
+
+  pub absorb-line : {S got c v : ℕ} (j : ℕ) → Brought m P N 0 S → bit S e ≡ 1 → bit S j ≡ 1 → got ≡ gathered inputs S j → c + 3 * N + 5 ≤ 6 * 2 ^ N + j
+      → v ≡ getD inputs j 0 → Ok (gather S (suc j) (union got v)) (suc c)
+  absorb-line {S} {got} {c} {v} j b s h g k q =
+      gather-on b s (rw (g, q) (sym (gathered-member inputs S j h))) (few j (brought-posted b j h)) (omega arith)
 
   module _ {d : ℕ} {own other : Reading} (pair : Pair N m P t e d own other) where
     finish : {u c : ℕ} → Stood m u d (e / 2 ^ d) (own .set) → Stood m u d (sibling (e / 2 ^ d)) (other .set) → Spent d 0 (own .known) (other .known) c
