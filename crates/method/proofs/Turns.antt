@@ -1,6 +1,6 @@
 -- What a turn does: the operation on the board with what it brings, then the row that goes on; or nothing.
 use mathlib.Core.Path.{_≡_, refl, sym, ap, _∙_, subst}
-use mathlib.Core.Bool.{Bool, true, false, cond, _&&_}
+use mathlib.Core.Bool.{Bool, true, false, cond, _&&_, false≢true}
 use mathlib.Core.List.{List}
 use mathlib.Core.Logic.{_≢_}
 use Prim.Native.Nat.{ℕ, zero, suc, _+_, _-_, _≤_, _<_}
@@ -26,6 +26,7 @@ use Rattle.method.specs.declared.Turned.{Turned}
 use Rattle.method.specs.Board.{written, row, rowOf, lineOf, levelOf, registerOf, withRow, withLine, withRegister}
 use Rattle.method.specs.Steps.{writing, reachAt, reach, nextOp, absorb}
 use Rattle.method.specs.Turn.{turned, goesOn, readLine, perform, named, turn, after}
+use Rattle.method.specs.Demand.{Station}
 use Rattle.method.proofs.Parts.{Shape, row-shape, line-shape, register-shape, row-put, row-kept, Put, kept, anew, register-cases}
 
 -- the operation of station i brings v, and leaves the record so
@@ -98,3 +99,80 @@ goes-register run i v k c j = refl
 pub goes-line : (run : Run) (i v j : ℕ) → lineOf (goesOn run i v) j ≡ lineOf run j
 unfolding lineOf goesOn withRow
 goes-line run i v j = refl
+
+module _ {l r n w : ℕ} {run : Run} (shape : Shape l r n w run) (i v : ℕ) where
+  pub goes-row : 1 ≤ i → i ≤ w → rowOf (goesOn run i v) i ≡ row (absorb (run .depth) i (rowOf run i .state) v) (rowOf run i .count + 1)
+  unfolding goesOn
+  goes-row p h = row-put shape i _ p h
+
+  pub goes-shape : Shape l r n w (goesOn run i v)
+  unfolding goesOn
+  goes-shape = row-shape shape i _
+
+pub goes-row-other : (run : Run) (i v j : ℕ) → 1 ≤ i → 1 ≤ j → j ≢ i → rowOf (goesOn run i v) j ≡ rowOf run j
+unfolding goesOn
+goes-row-other run i v j p q h = row-kept run i j _ p q h
+
+-- ---- a filled register stays filled, since no set that is written is empty
+
+abbrev Fills : Op → Type 0
+Fills (Post s) = Unit {0}
+Fills (Write k c j v) = 0 < v
+Fills (Read k c j) = Unit {0}
+Fills (ReadLine j) = Unit {0}
+Fills Rest = Unit {0}
+
+reach-fills : (k c : ℕ) (r : Reading) → Fills (reach k c r)
+unfolding reach writing
+reach-fills k c r = go (writing r) refl
+  where
+    go : (w : Bool) → writing r ≡ w → Fills (reachAt w k c r)
+    go true q = counted (r .set) (omega (arith, ltb-true (r .known) (size (r .set)) q))
+    go false q = tt
+
+op-fills : (i : ℕ) (s : State) → Fills (nextOp i s)
+unfolding nextOp
+op-fills i (NotBegun s) = tt
+op-fills i (Uniting k own other Own round) = reach-fills k _ own
+op-fills i (Uniting k own other Other round) = reach-fills k _ other
+op-fills i (Gathering S j got) = tt
+op-fills i (Settled S got) = tt
+
+acts-stays : {run next : Run} {i v : ℕ} {op : Op} (k c j : ℕ) → Acts run i op v next → Fills op → 0 < registerOf run k c j → 0 < registerOf next k c j
+unfolding registerOf levelOf withLine
+acts-stays k c j posts f h = h
+acts-stays {run} k c j (writes {k = k'} {c = c'} {j = j'} {v = v}) f h = go (register-cases run k' c' j' v k c j)
+  where
+    go : Put run k' c' j' v k c j → 0 < registerOf (withRegister run k' c' j' v) k c j
+    go (kept q) = rw q h
+    go (anew q x y) = rw q f
+acts-stays k c j reads f h = h
+acts-stays k c j (reads-line q) f h = h
+
+pub turn-stays : (run : Run) (i k c j : ℕ) → 0 < registerOf run k c j → 0 < registerOf (turn run i .run) k c j
+turn-stays run i k c j h = go (turns run i)
+  where
+    done : {op : Op} {x : Turned} → Performs run i op x → Fills op → 0 < registerOf (x .run) k c j
+    done (acts {v = v} {next = next} a) f = rw (goes-register next i v k c j) (acts-stays k c j a f h)
+    done idles f = h
+    done (misses q) f = h
+
+    go : {x : Turned} → Turns run i x → 0 < registerOf (x .run) k c j
+    go (station q p) = done p (op-fills i (rowOf run i .state))
+    go (nobody q) = h
+
+-- ---- who is named
+
+pub named-station : {l r n w : ℕ} {run : Run} (i : ℕ) → Shape l r n w run → named run i ≡ true → Station n i
+unfolding named
+named-station {n = n} {run = run} i s q = go (leb 1 i) refl (leb i (run .stations)) refl q
+  where
+    go : (x : Bool) → leb 1 i ≡ x → (y : Bool) → leb i (run .stations) ≡ y → (x && y && leb i (length (run .rows))) ≡ true → Station n i
+    go true p true p' h = record { low = leb-true 1 i p; high = omega (arith, leb-true i (run .stations) p', s .counted) }
+    go true p false p' h = absurd (false≢true h)
+    go false p y p' h = absurd (false≢true h)
+
+pub station-named : {l r n w : ℕ} {run : Run} (i : ℕ) → Shape l r n w run → n ≤ w → Station n i → named run i ≡ true
+unfolding named
+station-named {run = run} i s h st =
+    rw (le-leb 1 i (st .low), le-leb i (run .stations) (omega (arith, st .high, s .counted)), le-leb i (length (run .rows)) (omega (arith, st .high, s .rows)))
