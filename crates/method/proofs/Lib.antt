@@ -6,3 +6,4 @@ pub mod Gathering
 pub mod Moves
 pub mod Parts
 pub mod Turns
+pub mod Moments

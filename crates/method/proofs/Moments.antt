@@ -1,0 +1,95 @@
+-- What holds of board, lines and rows at every moment of a run, by induction over its turns.
+use mathlib.Core.Path.{_≡_, refl, sym, ap, _∙_, subst}
+use mathlib.Core.Bool.{Bool, true, false, true≢false, false≢true}
+use mathlib.Core.List.{List}
+use mathlib.Core.Logic.{_≢_, _⊎_, inl, inr}
+use Prim.Native.Nat.{ℕ, zero, suc, _+_, _-_, _*_, _/_, _%_, _^_, _≤_, _<_, zero-le}
+use native.Mathlib.Nat.{le-refl, le-trans, le-suc, lt-of-lt-of-le}
+use native.Mathlib.Decide.{ℕ-discrete}
+use native.Mathlib.Numerals.{add-one}
+use native.Mathlib.Omega.{arith}
+use borrow.Author.Tests.{ltb-true, eq-eqb}
+use lib.Dec.{eqb}
+use lib.ListN.{length, getD}
+use Rattle.sets.specs.Mask.{size, union, bit}
+use Rattle.sets.specs.Arrays.{ownArray, otherArray, place}
+use Rattle.sets.proofs.Subset.{counted}
+use Rattle.sets.proofs.Blocks.{sibling, own-block, other-block, own-within, sibling-within}
+use Rattle.method.specs.declared.Line.{Line}
+use Rattle.method.specs.declared.Reading.{Reading}
+use Rattle.method.specs.declared.Side.{Side}
+use Rattle.method.specs.declared.Side.the-variants.{Own, Other}
+use Rattle.method.specs.declared.Round.{Round}
+use Rattle.method.specs.declared.State.{State}
+use Rattle.method.specs.declared.State.the-variants.{NotBegun, Uniting, Gathering, Settled}
+use Rattle.method.specs.declared.Row.{Row}
+use Rattle.method.specs.declared.Op.{Op}
+use Rattle.method.specs.declared.Op.the-variants.{Post, Write, Read, ReadLine, Rest}
+use Rattle.method.specs.declared.Run.{Run}
+use Rattle.method.specs.declared.Did.{Did}
+use Rattle.method.specs.declared.Did.the-variants.{Operation, Idle, Unwritten, Nobody}
+use Rattle.method.specs.declared.Turned.{Turned}
+use Rattle.method.specs.Board.{depth, written, row, freshOn, rowOf, lineOf, registerOf, withLine, withRegister}
+use Rattle.method.specs.Steps.{writing, pending, reachAt, reach, nextOp, absorb}
+use Rattle.method.specs.Turn.{goesOn, turn, after}
+use Rattle.method.specs.Demand.{Fits, Station, one, timesNamed, gathered}
+use Rattle.method.proofs.Brought.{History, Lasting, Brought, brought-mono, brought-posted}
+use Rattle.method.proofs.Rows as R
+use Rattle.method.proofs.Rows.{RowOk, begins, unites, gathers, settled, row-later}
+use Rattle.method.proofs.Moves.{Answer, BoardOk, absorb-post, absorb-line, absorb-own, absorb-other}
+use Rattle.method.proofs.Parts.{Shape, fresh-shape, fresh-register, fresh-line, fresh-row, line-put, line-kept, register-put, Put, kept, anew, register-cases, put-there}
+use Rattle.method.proofs.Turns.{Acts, posts, writes, reads, reads-line, Performs, acts, idles, misses, Turns, station, nobody, turns, acts-row, acts-depth, acts-shape, goes-register, goes-line, goes-row, goes-shape, goes-row-other, turn-stays, named-station}
+
+-- the board of a run, at every moment
+abbrev pub board : Run → List ℕ → History
+board start order u d b p = registerOf (after start order u) (suc d) (suc b) (suc p)
+
+-- station e + 1 has posted its line by moment t
+pub record Posted (start : Run) (order : List ℕ) (n t e : ℕ) : Type 0 where
+  pub within : e < n
+  pub line : lineOf (after start order t) (suc e) .written ≡ true
+  pub named : 1 ≤ timesNamed order t (suc e)
+
+pub record Sound (l r n : ℕ) (inputs : List ℕ) (start : Run) (order : List ℕ) (t : ℕ) : Type 0 where
+  pub shape : Shape l r n (length inputs) (after start order t)
+  pub registers : BoardOk (board start order) (Posted start order n t) t
+  pub lines : (e : ℕ) → e < n → lineOf (after start order t) (suc e) .written ≡ true → lineOf (after start order t) (suc e) .stocks ≡ getD inputs e 0
+  pub rows : (e : ℕ) → e < n → RowOk (depth n) n inputs (board start order) (Posted start order n t) t e (rowOf (after start order t) (suc e) .state) (rowOf (after start order t) (suc e) .count)
+
+pub after-turn : (start : Run) (order : List ℕ) (t : ℕ) → after start order (suc t) ≡ turn (after start order t) (getD order t 0) .run
+unfolding after
+after-turn start order t = refl
+
+-- the board of a fresh run is empty at first, and lasts
+pub lasting : (l r n : ℕ) (inputs order : List ℕ) → Lasting (board (freshOn l r n inputs) order)
+unfolding after
+lasting l r n inputs order =
+    record {
+      start = λ d b p. fresh-register l r n inputs (suc d) (suc b) (suc p);
+      stays = λ u d b p h. turn-stays (after (freshOn l r n inputs) order u) (getD order u 0) (suc d) (suc b) (suc p) h;
+    }
+
+pub named-more : (order : List ℕ) (t i : ℕ) → timesNamed order t i ≤ timesNamed order (suc t) i
+unfolding timesNamed
+named-more order t i = omega arith
+
+pub named-once : (order : List ℕ) (t : ℕ) → 1 ≤ timesNamed order (suc t) (getD order t 0)
+unfolding timesNamed
+named-once order t = rw (eq-eqb (getD order t 0) (getD order t 0) refl) (omega arith)
+
+module _ (l r n : ℕ) (inputs : List ℕ) (fits : Fits l r n inputs) (order : List ℕ) where
+  abbrev start : Run
+  start = freshOn l r n inputs
+
+  abbrev m : History
+  m = board (freshOn l r n inputs) order
+
+  pub sound-first : Sound l r n inputs (freshOn l r n inputs) order 0
+  unfolding after
+  sound-first =
+      record {
+        shape = fresh-shape l r n inputs;
+        registers = record { holds = λ d b p l' h. absurd (omega (arith, fresh-register l r n inputs (suc d) (suc b) (suc p))) };
+        lines = λ e h q. absurd (false≢true (sym (fresh-line l r n inputs (suc e)) ∙ q));
+        rows = λ e h. rw (fresh-row l r n inputs e) begins;
+      }
