@@ -33,7 +33,7 @@ use Rattle.method.specs.Board.{depth, written, row, freshOn, rowOf, line
 use Rattle.method.specs.Steps.{writing, pending, reachAt, reach, nextOp, absorb}
 use Rattle.method.specs.Turn.{goesOn, turn, after}
 use Rattle.method.specs.Demand.{Fits, Station, one, timesNamed, gathered}
-use Rattle.method.proofs.Brought.{History, Lasting, Brought, brought-mono, brought-posted}
+use Rattle.method.proofs.Brought.{History, Lasting, Brought, brought-mono, brought-size, brought-posted}
 use Rattle.method.proofs.Rows as R
 use Rattle.method.proofs.Rows.{RowOk, begins, unites, gathers, settled, row-later}
 use Rattle.method.proofs.Moves.{Answer, BoardOk, absorb-post, absorb-line, absorb-own, absorb-other}
@@ -93,3 +93,60 @@ module _ (l r n : ℕ) (inputs : List ℕ) (fits : Fits l r n inputs) (order : L
         lines = λ e h q. absurd (false≢true (sym (fresh-line l r n inputs (suc e)) ∙ q));
         rows = λ e h. rw (fresh-row l r n inputs e) begins;
       }
+
+  -- one turn more, of station i, from a moment at which all holds
+  module _ (t : ℕ) (sound : Sound l r n inputs (freshOn l r n inputs) order t) where
+    abbrev now : Run
+    now = after (freshOn l r n inputs) order t
+
+    abbrev next : Run
+    next = after (freshOn l r n inputs) order (suc t)
+
+    abbrev P : ℕ → Type 0
+    P = Posted (freshOn l r n inputs) order n (suc t)
+
+    -- the board as it was
+    board-same : ((k c j : ℕ) → registerOf next k c j ≡ registerOf now k c j) → BoardOk m P t → BoardOk m P (suc t)
+    board-same reg b = record { holds = λ d c p h f. rw reg (b .holds d c p h (rw reg at f)) }
+
+    wrote-it : {i k c j y v : ℕ} {nx : Run} → Acts now i (Write k c j y) v nx → ((k' c' j' : ℕ) → registerOf next k' c' j' ≡ registerOf nx k' c' j')
+        → (k' c' j' : ℕ) → registerOf next k' c' j' ≡ registerOf (withRegister now k c j y) k' c' j'
+    wrote-it writes reg = reg
+
+    read-it : {i k c j v : ℕ} {nx : Run} → Acts now i (Read k c j) v nx → ((k' c' j' : ℕ) → registerOf next k' c' j' ≡ registerOf nx k' c' j')
+        → ((k' c' j' : ℕ) → registerOf next k' c' j' ≡ registerOf now k' c' j') × (v ≡ registerOf now k c j)
+    read-it reads reg = (reg, refl)
+
+    -- an operation of the reading of block b's array
+    reached : {i d b c v : ℕ} {x : Reading} {nx : Run} → c ≡ suc b → R.Read m P (suc t) d b x → d < depth n → b < 2 ^ (depth n - d)
+        → Acts now i (reach (suc d) c x) v nx → ((k' c' j' : ℕ) → registerOf next k' c' j' ≡ registerOf nx k' c' j') → BoardOk m P t
+        → BoardOk m P (suc t) × Answer m (suc t) d b x v
+    unfolding reach writing
+    reached {i} {d} {b} {c} {v} {x} {nx} q read h k a reg ok = go (writing x) refl (rw q at a)
+      where
+        go : (w : Bool) → writing x ≡ w → Acts now i (reachAt w (suc d) (suc b) x) v nx → BoardOk m P (suc t) × Answer m (suc t) d b x v
+        go true w a = (record { holds = λ d' b' p' l' f. there d' b' p' l' f (register-cases now (suc d) (suc b) (suc (x .known)) (x .set) (suc d') (suc b') (suc p')) },
+          record { filled = λ z. rw (put-reg, in-place) (counted (x .set) (omega (arith, less))); shown = λ z. absurd (true≢false (sym w ∙ z)) })
+          where
+            less : x .known < size (x .set)
+            less = ltb-true (x .known) (size (x .set)) w
+
+            short : x .known < 2 ^ d
+            short = lt-of-lt-of-le less (brought-size (read .brought))
+
+            put-reg : (k' c' j' : ℕ) → registerOf next k' c' j' ≡ registerOf (withRegister now (suc d) (suc b) (suc (x .known)) (x .set)) k' c' j'
+            put-reg k' c' j' = rw add-one at (wrote-it a reg k' c' j')
+
+            in-place : registerOf (withRegister now (suc d) (suc b) (suc (x .known)) (x .set)) (suc d) (suc b) (suc (x .known)) ≡ x .set
+            in-place = register-put (sound .shape) (depth n) d b (x .known) (x .set) (omega (arith, fits .deep)) (omega arith) k short (fits .wide)
+
+            there : (d' b' p' : ℕ) → p' < 2 ^ d' → 0 < m (suc t) d' b' p' → Put now (suc d) (suc b) (suc (x .known)) (x .set) (suc d') (suc b') (suc p')
+                → Brought m P d' b' (m (suc t) d' b' p') × (p' < size (m (suc t) d' b' p'))
+            there d' b' p' l' f (kept z) = let y : m (suc t) d' b' p' ≡ m t d' b' p' = put-reg (suc d') (suc b') (suc p') ∙ z in rw y (ok .holds d' b' p' l' (rw y at f))
+            there d' b' p' l' f (anew z y u) =
+                let g : m (suc t) d' b' p' ≡ x .set = put-reg (suc d') (suc b') (suc p') ∙ z in
+                let s = put-there d b (x .known) d' b' p' short l' y u in
+                rw (g, s .0, s .1, s .2) (read .brought, less)
+        go false w a =
+            let y = read-it a reg in
+            (board-same (y .0) ok, record { filled = λ z. absurd (true≢false (sym z ∙ w)); shown = λ z. (rw add-one at (y .1)) ∙ sym (y .0 (suc d) (suc b) (suc (size (x .set)))) })
