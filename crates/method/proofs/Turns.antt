@@ -4,6 +4,7 @@ use mathlib.Core.Bool.{Bool, true, false, cond, _&&_, false≢true}
 use mathlib.Core.List.{List}
 use mathlib.Core.Logic.{_≢_}
 use Prim.Native.Nat.{ℕ, zero, suc, _+_, _-_, _≤_, _<_}
+use native.Mathlib.Decide.{ℕ-discrete}
 use native.Mathlib.Omega.{arith}
 use borrow.Author.Tests.{leb-true, le-leb, ltb-true}
 use lib.Dec.{leb}
@@ -27,7 +28,7 @@ use Rattle.method.specs.Board.{written, row, rowOf, lineOf, levelOf, reg
 use Rattle.method.specs.Steps.{writing, reachAt, reach, nextOp, absorb}
 use Rattle.method.specs.Turn.{turned, goesOn, readLine, perform, named, turn, after}
 use Rattle.method.specs.Demand.{Station}
-use Rattle.method.proofs.Parts.{Shape, row-shape, line-shape, register-shape, row-put, row-kept, Put, kept, anew, register-cases}
+use Rattle.method.proofs.Parts.{Shape, row-shape, line-shape, register-shape, row-put, row-kept, line-put, line-kept, Put, kept, anew, register-cases}
 
 -- the operation of station i brings v, and leaves the record so
 pub data Acts (run : Run) (i : ℕ) : Op → ℕ → Run → Type 0 where
@@ -160,6 +161,40 @@ turn-stays run i k c j h = go (turns run i)
     go : {x : Turned} → Turns run i x → 0 < registerOf (x .run) k c j
     go (station q p) = done p (op-fills i (rowOf run i .state))
     go (nobody q) = h
+
+-- ---- a line is as it was, or a station that has not begun posts it
+
+pub data LineAfter (run : Run) (i : ℕ) (op : Op) (j : ℕ) (x : Line) : Type 0 where
+  same : x ≡ lineOf run j → LineAfter run i op j x
+  posted : {s : ℕ} → op ≡ Post s → j ≡ i → x ≡ written s → LineAfter run i op j x
+
+pub acts-line : {l r n w : ℕ} {run next : Run} {i v : ℕ} {op : Op} → Shape l r n w run → 1 ≤ i → i ≤ w → (j : ℕ) → 1 ≤ j → Acts run i op v next
+    → LineAfter run i op j (lineOf next j)
+unfolding lineOf withRegister
+acts-line {run = run} {i = i} s p h j q (posts {s = x}) = go (ℕ-discrete j i)
+  where
+    go : Dec (j ≡ i) → LineAfter run i (Post x) j (lineOf (withLine run i (written x)) j)
+    go (yes e) = posted refl e (rw e (line-put s i (written x) p h))
+    go (no f) = same (line-kept run i j (written x) p q f)
+acts-line s p h j q writes = same refl
+acts-line s p h j q reads = same refl
+acts-line s p h j q (reads-line z) = same refl
+
+reach-posts : (k c : ℕ) (r : Reading) (s : ℕ) → reach k c r ≡ Post s → ⊥
+unfolding reach
+reach-posts k c r s = go (writing r)
+  where
+    go : (w : Bool) → reachAt w k c r ≡ Post s → ⊥
+    go true q = let z : _≡_ {A = ℕ} 0 1 = cc in omega arith
+    go false q = let z : _≡_ {A = ℕ} 0 1 = cc in omega arith
+
+pub post-begins : (i : ℕ) (st : State) (s : ℕ) → nextOp i st ≡ Post s → st ≡ NotBegun s
+unfolding nextOp
+post-begins i (NotBegun x) s q = cc
+post-begins i (Uniting k own other Own round) s q = absurd (reach-posts k _ own s q)
+post-begins i (Uniting k own other Other round) s q = absurd (reach-posts k _ other s q)
+post-begins i (Gathering S j got) s q = cc
+post-begins i (Settled S got) s q = cc
 
 -- ---- who is named
 
