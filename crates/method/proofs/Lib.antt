@@ -1,4 +1,5 @@
 -- Demand 3, proved of the definitions: the statements are in Demand3.
+pub mod Depth
 pub mod Brought
 pub mod Potential
 pub mod Rows

@@ -4,7 +4,7 @@ use mathlib.Core.Bool.{Bool, true, false, true≢false, false≢true}
 use mathlib.Core.List.{List}
 use mathlib.Core.Logic.{_≢_, _⊎_, inl, inr}
 use Prim.Native.Nat.{ℕ, zero, suc, _+_, _-_, _*_, _/_, _%_, _^_, _≤_, _<_, zero-le}
-use native.Mathlib.Nat.{le-refl, le-trans, le-suc, lt-of-lt-of-le}
+use native.Mathlib.Nat.{le-refl, le-trans, le-suc, le-of-lt, lt-of-lt-of-le}
 use native.Mathlib.Decide.{ℕ-discrete}
 use native.Mathlib.Numerals.{add-one}
 use native.Mathlib.Omega.{arith}
@@ -29,16 +29,17 @@ use Rattle.method.specs.declared.Run.{Run}
 use Rattle.method.specs.declared.Did.{Did}
 use Rattle.method.specs.declared.Did.the-variants.{Operation, Idle, Unwritten, Nobody}
 use Rattle.method.specs.declared.Turned.{Turned}
-use Rattle.method.specs.Board.{depth, written, row, freshOn, rowOf, lineOf, registerOf, withLine, withRegister}
+use Rattle.method.specs.Board.{depth, written, row, freshOn, rowOf, lineOf, levelOf, registerOf, withLine, withRegister}
 use Rattle.method.specs.Steps.{writing, pending, reachAt, reach, nextOp, absorb}
 use Rattle.method.specs.Turn.{goesOn, turn, after}
 use Rattle.method.specs.Demand.{Fits, Station, one, timesNamed, gathered}
 use Rattle.method.proofs.Brought.{History, Lasting, Brought, brought-mono, brought-size, brought-posted}
+use Rattle.method.proofs.Depth.{depth-enough}
 use Rattle.method.proofs.Rows as R
-use Rattle.method.proofs.Rows.{RowOk, begins, unites, gathers, settled, row-later}
+use Rattle.method.proofs.Rows.{RowOk, begins, unites, gathers, settled, begun-input, row-later}
 use Rattle.method.proofs.Moves.{Answer, BoardOk, absorb-post, absorb-line, absorb-own, absorb-other}
 use Rattle.method.proofs.Parts.{Shape, fresh-shape, fresh-register, fresh-line, fresh-row, line-put, line-kept, register-put, Put, kept, anew, register-cases, put-there}
-use Rattle.method.proofs.Turns.{Acts, posts, writes, reads, reads-line, Performs, acts, idles, misses, Turns, station, nobody, turns, acts-row, acts-depth, acts-shape, goes-register, goes-line, goes-row, goes-shape, goes-row-other, turn-stays, named-station}
+use Rattle.method.proofs.Turns.{Acts, posts, writes, reads, reads-line, Performs, acts, idles, misses, Turns, station, nobody, turns, acts-row, acts-shape, LineAfter, same, posted, acts-line, post-begins, goes-register, goes-line, goes-row, goes-shape, goes-row-other, turn-stays, named-station}
 
 -- the board of a run, at every moment
 abbrev pub board : Run → List ℕ → History
@@ -105,6 +106,15 @@ module _ (l r n : ℕ) (inputs : List ℕ) (fits : Fits l r n inputs) (order : L
     abbrev P : ℕ → Type 0
     P = Posted (freshOn l r n inputs) order n (suc t)
 
+    few : (j : ℕ) → P j → j < n
+    few j p = p .within
+
+    lasts : Lasting m
+    lasts = lasting l r n inputs order
+
+    enough : n ≤ 2 ^ depth n
+    enough = depth-enough n
+
     -- the board as it was
     board-same : ((k c j : ℕ) → registerOf next k c j ≡ registerOf now k c j) → BoardOk m P t → BoardOk m P (suc t)
     board-same reg b = record { holds = λ d c p h f. rw reg (b .holds d c p h (rw reg at f)) }
@@ -150,3 +160,113 @@ module _ (l r n : ℕ) (inputs : List ℕ) (fits : Fits l r n inputs) (order : L
         go false w a =
             let y = read-it a reg in
             (board-same (y .0) ok, record { filled = λ z. absurd (true≢false (sym z ∙ w)); shown = λ z. (rw add-one at (y .1)) ∙ sym (y .0 (suc d) (suc b) (suc (size (x .set)))) })
+
+    -- what was right stays right where lines that are written stay so
+    module _ (keeps : (j : ℕ) → lineOf now (suc j) .written ≡ true → lineOf next (suc j) .written ≡ true) where
+      posted-later : (j : ℕ) → Posted (freshOn l r n inputs) order n t j → P j
+      posted-later j p = record { within = p .within; line = keeps j (p .line); named = le-trans (p .named) (named-more order t (suc j)) }
+
+      row-now : (j : ℕ) → j < n → RowOk (depth n) n inputs m P (suc t) j (rowOf now (suc j) .state) (rowOf now (suc j) .count)
+      row-now j h = row-later lasts posted-later (le-suc t) (sound .rows j h)
+
+      board-now : BoardOk m P t
+      board-now =
+          record {
+            holds = λ d b p h f. let x = sound .registers .holds d b p h f in (brought-mono posted-later (x .0), x .1);
+          }
+
+    -- a turn that changes nothing
+    still : next ≡ now → Sound l r n inputs (freshOn l r n inputs) order (suc t)
+    still q =
+        record {
+          shape = rw q (sound .shape);
+          registers = board-same (λ k c j. rw q) (board-now keeps);
+          lines = λ e h w. rw q (sound .lines e h (rw q at w));
+          rows = λ e h. rw q (row-now keeps e h);
+        }
+      where
+        keeps : (j : ℕ) → lineOf now (suc j) .written ≡ true → lineOf next (suc j) .written ≡ true
+        keeps j w = rw q w
+
+    block-in : {e d : ℕ} → e < n → d < depth n → e / 2 ^ d < 2 ^ (depth n - d)
+    block-in {e} {d} h k = own-within (depth n) d e (le-of-lt k) (lt-of-lt-of-le h enough)
+
+    -- an operation of station e + 1, in state s
+    effect : {e c v : ℕ} {s : State} {nx : Run} → e < n → 1 ≤ timesNamed order (suc t) (suc e) → BoardOk m P t
+        → ((k c j : ℕ) → registerOf next k c j ≡ registerOf nx k c j) → ((j : ℕ) → lineOf next j ≡ lineOf nx j)
+        → RowOk (depth n) n inputs m P (suc t) e s c → Acts now (suc e) (nextOp (suc e) s) v nx
+        → BoardOk m P (suc t) × RowOk (depth n) n inputs m P (suc t) e (absorb (depth n) (suc e) s v) (suc c)
+    unfolding nextOp absorb registerOf levelOf withLine
+    effect {e = e} h names board reg lin begins posts = (board-same reg board, absorb-post (depth n) n inputs lasts few enough (suc t) e record { within = h; line = line; named = names })
+      where
+        line : lineOf next (suc e) .written ≡ true
+        line = rw (lin, line-put (sound .shape) (suc e) (written (getD inputs e 0)) (omega arith) (omega (arith, fits .given)))
+    effect {e = e} {v = v} h names board reg lin (unites {d = d} {own = own} {side = Own} {round = round} pair seen pend spent) a =
+        let x = reached (own-block d e) (pair .ours) (pair .within) (block-in h (pair .within)) a reg board in
+        (x .0, absorb-own (depth n) n inputs lasts few enough (suc t) e pair (x .0) round v seen pend spent (x .1))
+    effect {e = e} {v = v} h names board reg lin (unites {d = d} {own = own} {side = Other} {round = round} pair seen pend spent) a =
+        let x = reached (other-block d e) (pair .theirs) (pair .within) (sibling-within (depth n) d (e / 2 ^ d) (pair .within) (block-in h (pair .within))) a reg board in
+        (x .0, absorb-other (depth n) n inputs lasts few enough (suc t) e pair (x .0) round v seen pend spent (x .1))
+    effect {e = e} h names board reg lin (gathers {j = j} b s k g c) (reads-line q) =
+        (board-same reg board, absorb-line (depth n) n inputs lasts few enough (suc t) e j b s k g c (sound .lines j (few j (brought-posted b j k)) q))
+
+    -- a turn of station e + 1 that makes an operation
+    module _ (e v : ℕ) {nx : Run} (h : e < n) (a : Acts now (suc e) (nextOp (suc e) (rowOf now (suc e) .state)) v nx) (is : next ≡ goesOn nx (suc e) v)
+      (names : 1 ≤ timesNamed order (suc t) (suc e)) where
+      reg : (k c j : ℕ) → registerOf next k c j ≡ registerOf nx k c j
+      reg k c j = ap (λ (x : Run). registerOf x k c j) is ∙ goes-register nx (suc e) v k c j
+
+      lin : (j : ℕ) → lineOf next j ≡ lineOf nx j
+      lin j = ap (λ (x : Run). lineOf x j) is ∙ goes-line nx (suc e) v j
+
+      shape-next : Shape l r n (length inputs) nx
+      shape-next = acts-shape (sound .shape) a
+
+      own-row : rowOf next (suc e) ≡ row (absorb (depth n) (suc e) (rowOf now (suc e) .state) v) (rowOf now (suc e) .count + 1)
+      own-row =
+          ap (λ (x : Run). rowOf x (suc e)) is ∙ goes-row shape-next (suc e) v (omega arith) (omega (arith, fits .given))
+          ∙ rw (acts-row a (suc e), shape-next .deep)
+
+      other-row : (j : ℕ) → j ≢ e → rowOf next (suc j) ≡ rowOf now (suc j)
+      other-row j f =
+          ap (λ (x : Run). rowOf x (suc j)) is ∙ goes-row-other nx (suc e) v (suc j) (omega arith) (omega arith) (λ q. f (omega arith))
+          ∙ acts-row a (suc j)
+
+      line-after : (j : ℕ) → LineAfter now (suc e) (nextOp (suc e) (rowOf now (suc e) .state)) (suc j) (lineOf next (suc j))
+      line-after j = rw lin (acts-line (sound .shape) (omega arith) (omega (arith, fits .given)) (suc j) (omega arith) a)
+
+      line-keeps : (j : ℕ) → lineOf now (suc j) .written ≡ true → lineOf next (suc j) .written ≡ true
+      line-keeps j w = go (line-after j)
+        where
+          go : LineAfter now (suc e) (nextOp (suc e) (rowOf now (suc e) .state)) (suc j) (lineOf next (suc j)) → lineOf next (suc j) .written ≡ true
+          go (same q) = rw q w
+          go (posted q s x) = rw x
+
+      line-right : (j : ℕ) → j < n → lineOf next (suc j) .written ≡ true → lineOf next (suc j) .stocks ≡ getD inputs j 0
+      line-right j k w = go (line-after j)
+        where
+          go : LineAfter now (suc e) (nextOp (suc e) (rowOf now (suc e) .state)) (suc j) (lineOf next (suc j)) → lineOf next (suc j) .stocks ≡ getD inputs j 0
+          go (same q) = rw q (sound .lines j k (rw q at w))
+          go (posted {s = s} q x y) =
+              let z : j ≡ e = omega arith in
+              rw (y, z) (begun-input (rw (post-begins (suc e) (rowOf now (suc e) .state) s q) at (sound .rows e h)))
+
+      acted : Sound l r n inputs (freshOn l r n inputs) order (suc t)
+      acted =
+          record {
+            shape = rw is (goes-shape shape-next (suc e) v);
+            registers = x .0;
+            lines = line-right;
+            rows = λ j k. go j k (ℕ-discrete j e);
+          }
+        where
+          x : BoardOk m P (suc t) × RowOk (depth n) n inputs m P (suc t) e (absorb (depth n) (suc e) (rowOf now (suc e) .state) v) (suc (rowOf now (suc e) .count))
+          x = effect h names (board-now line-keeps) reg lin (row-now line-keeps e h) a
+
+          go : (j : ℕ) → j < n → Dec (j ≡ e) → RowOk (depth n) n inputs m P (suc t) j (rowOf next (suc j) .state) (rowOf next (suc j) .count)
+          go j k (yes q) = rw (q, own-row, add-one) (x .1)
+          go j k (no f) = rw (other-row j f) (row-now line-keeps j k)
+
+    -- whoever is named
+    pub sound-next : Sound l r n inputs (freshOn l r n inputs) order (suc t)
+    sound-next = ?

@@ -79,6 +79,10 @@ pub data RowOk (N n : ℕ) (inputs : List ℕ) (m : History) (Posted : ℕ → T
   settled : {S got c : ℕ} → Brought m Posted N 0 S → bit S e ≡ 1 → got ≡ gathered inputs S n → c + 3 * N + 5 ≤ 6 * 2 ^ N + n
       → RowOk N n inputs m Posted t e (Settled S got) c
 
+-- a station that has not begun has its input
+pub begun-input : {N n t e s c : ℕ} {inputs : List ℕ} {m : History} {P : ℕ → Type 0} → RowOk N n inputs m P t e (NotBegun s) c → s ≡ getD inputs e 0
+begun-input begins = refl
+
 -- all of it lasts
 module _ {m : History} (board : Lasting m) {P Q : ℕ → Type 0} (more : (e : ℕ) → P e → Q e) {t v : ℕ} (l : t ≤ v) where
   read-later : {d b : ℕ} {r : Reading} → Read m P t d b r → Read m Q v d b r
