@@ -39,7 +39,7 @@ use Rattle.method.proofs.Rows as R
 use Rattle.method.proofs.Rows.{RowOk, begins, unites, gathers, settled, begun-input, row-later}
 use Rattle.method.proofs.Moves.{Answer, BoardOk, absorb-post, absorb-line, absorb-own, absorb-other}
 use Rattle.method.proofs.Parts.{Shape, fresh-shape, fresh-register, fresh-line, fresh-row, line-put, line-kept, register-put, Put, kept, anew, register-cases, put-there}
-use Rattle.method.proofs.Turns.{Acts, posts, writes, reads, reads-line, Performs, acts, idles, misses, Turns, station, nobody, turns, acts-row, acts-shape, LineAfter, same, posted, acts-line, post-begins, goes-register, goes-line, goes-row, goes-shape, goes-row-other, turn-stays, named-station}
+use Rattle.method.proofs.Turns.{Acts, posts, writes, reads, reads-line, Performs, acts, idles, misses, Turns, station, nobody, turns, acts-row, acts-shape, LineAfter, same, posted, acts-line, post-begins, Gathers, gathering, read-gathers, goes-register, goes-line, goes-row, goes-shape, goes-row-other, turn-stays, named-station}
 
 -- the board of a run, at every moment
 abbrev pub board : Run → List ℕ → History
@@ -267,6 +267,42 @@ module _ (l r n : ℕ) (inputs : List ℕ) (fits : Fits l r n inputs) (order : L
           go j k (yes q) = rw (q, own-row, add-one) (x .1)
           go j k (no f) = rw (other-row j f) (row-now line-keeps j k)
 
-    -- whoever is named
+    -- whatever operation it is, and whoever is named
+    performed : (e : ℕ) {op : Op} {x : Turned} → e < n → 1 ≤ timesNamed order (suc t) (suc e) → nextOp (suc e) (rowOf now (suc e) .state) ≡ op
+        → Performs now (suc e) op x → next ≡ x .run → Sound l r n inputs (freshOn l r n inputs) order (suc t)
+    performed e h names o (acts {v = v} {next = nx} a) is = acted e v h (subst (λ (y : Op). Acts now (suc e) y v nx) (sym o) a) is names
+    performed e h names o idles is = still is
+    performed e h names o (misses q) is = still is
+
+    by-turn : (i : ℕ) {x : Turned} → 1 ≤ timesNamed order (suc t) i → Turns now i x → next ≡ x .run → Sound l r n inputs (freshOn l r n inputs) order (suc t)
+    by-turn zero names (station w p) is = absurd (omega (arith, named-station 0 (sound .shape) w .low))
+    by-turn (suc e) names (station w p) is = performed e (named-station (suc e) (sound .shape) w .high) names refl p is
+    by-turn zero names (nobody w) is = still is
+    by-turn (suc e) names (nobody w) is = still is
+
     pub sound-next : Sound l r n inputs (freshOn l r n inputs) order (suc t)
-    sound-next = ?
+    sound-next = by-turn (getD order t 0) (named-once order t) (turns now (getD order t 0)) (after-turn (freshOn l r n inputs) order t)
+
+    -- no line is read that has not been written: who gathers has only stations in its set that have posted
+    never-missed : (i j : ℕ) → Station n i → nextOp i (rowOf now i .state) ≡ ReadLine j → lineOf now j .written ≡ true
+    never-missed zero j st q = absurd (omega (arith, st .low))
+    never-missed (suc e) j st q = go (read-gathers (suc e) (rowOf now (suc e) .state) j q) (sound .rows e (st .high))
+      where
+        go : {s : State} {c j : ℕ} → Gathers j s → RowOk (depth n) n inputs m (Posted (freshOn l r n inputs) order n t) t e s c → lineOf now j .written ≡ true
+        go gathering (gathers b s k g c) = brought-posted b _ k .line
+
+    unwritten-never : (i : ℕ) {op : Op} {x : Turned} → Station n i → nextOp i (rowOf now i .state) ≡ op → Performs now i op x → x .did ≡ Unwritten → ⊥
+    unwritten-never i st o (acts a) q = let z : _≡_ {A = ℕ} 0 1 = cc in omega arith
+    unwritten-never i st o idles q = let z : _≡_ {A = ℕ} 0 1 = cc in omega arith
+    unwritten-never i st o (misses {j = j} f) q = false≢true (sym f ∙ never-missed i j st o)
+
+    pub never-unwritten : (i : ℕ) → turn now i .did ≡ Unwritten → ⊥
+    never-unwritten i = go (turns now i)
+      where
+        go : {x : Turned} → Turns now i x → x .did ≡ Unwritten → ⊥
+        go (station w p) q = unwritten-never i (named-station i (sound .shape) w) refl p q
+        go (nobody w) q = let z : _≡_ {A = ℕ} 0 1 = cc in omega arith
+
+  pub always-sound : (t : ℕ) → Sound l r n inputs (freshOn l r n inputs) order t
+  always-sound zero = sound-first
+  always-sound (suc t) = sound-next t (always-sound t)

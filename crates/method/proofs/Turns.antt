@@ -1,6 +1,6 @@
 -- What a turn does: the operation on the board with what it brings, then the row that goes on; or nothing.
 use mathlib.Core.Path.{_≡_, refl, sym, ap, _∙_, subst}
-use mathlib.Core.Bool.{Bool, true, false, cond, _&&_, false≢true}
+use mathlib.Core.Bool.{Bool, true, false, cond, _&&_, true≢false, false≢true}
 use mathlib.Core.List.{List}
 use mathlib.Core.Logic.{_≢_}
 use Prim.Native.Nat.{ℕ, zero, suc, _+_, _-_, _≤_, _<_}
@@ -180,21 +180,44 @@ acts-line s p h j q writes = same refl
 acts-line s p h j q reads = same refl
 acts-line s p h j q (reads-line z) = same refl
 
-reach-posts : (k c : ℕ) (r : Reading) (s : ℕ) → reach k c r ≡ Post s → ⊥
-unfolding reach
-reach-posts k c r s = go (writing r)
-  where
-    go : (w : Bool) → reachAt w k c r ≡ Post s → ⊥
-    go true q = let z : _≡_ {A = ℕ} 0 1 = cc in omega arith
-    go false q = let z : _≡_ {A = ℕ} 0 1 = cc in omega arith
+-- a reading is at the registers
+abbrev atBoard : Op → Bool
+atBoard (Post s) = false
+atBoard (Write k c j v) = true
+atBoard (Read k c j) = true
+atBoard (ReadLine j) = false
+atBoard Rest = false
 
+reach-at-board : (k c : ℕ) (r : Reading) → atBoard (reach k c r) ≡ true
+unfolding reach
+reach-at-board k c r = go (writing r)
+  where
+    go : (w : Bool) → atBoard (reachAt w k c r) ≡ true
+    go true = refl
+    go false = refl
+
+not-at-board : (k c : ℕ) (r : Reading) (op : Op) → atBoard op ≡ false → reach k c r ≡ op → ⊥
+not-at-board k c r op f q = true≢false (sym (reach-at-board k c r) ∙ ap atBoard q ∙ f)
+
+-- who posts has not begun, and who reads a line gathers
 pub post-begins : (i : ℕ) (st : State) (s : ℕ) → nextOp i st ≡ Post s → st ≡ NotBegun s
 unfolding nextOp
 post-begins i (NotBegun x) s q = cc
-post-begins i (Uniting k own other Own round) s q = absurd (reach-posts k _ own s q)
-post-begins i (Uniting k own other Other round) s q = absurd (reach-posts k _ other s q)
+post-begins i (Uniting k own other Own round) s q = absurd (not-at-board k _ own (Post s) refl q)
+post-begins i (Uniting k own other Other round) s q = absurd (not-at-board k _ other (Post s) refl q)
 post-begins i (Gathering S j got) s q = cc
 post-begins i (Settled S got) s q = cc
+
+pub data Gathers (j : ℕ) : State → Type 0 where
+  gathering : {S got : ℕ} → Gathers j (Gathering S j got)
+
+pub read-gathers : (i : ℕ) (st : State) (j : ℕ) → nextOp i st ≡ ReadLine j → Gathers j st
+unfolding nextOp
+read-gathers i (NotBegun x) j q = absurd (let z : _≡_ {A = ℕ} 0 1 = cc in omega arith)
+read-gathers i (Uniting k own other Own round) j q = absurd (not-at-board k _ own (ReadLine j) refl q)
+read-gathers i (Uniting k own other Other round) j q = absurd (not-at-board k _ other (ReadLine j) refl q)
+read-gathers i (Gathering S x got) j q = let z : x ≡ j = cc in rw z gathering
+read-gathers i (Settled S got) j q = absurd (let z : _≡_ {A = ℕ} 0 1 = cc in omega arith)
 
 -- ---- who is named
 
