@@ -8,3 +8,4 @@ pub mod Moves
 pub mod Parts
 pub mod Turns
 pub mod Moments
+pub mod Counts

@@ -4,6 +4,7 @@ use mathlib.Core.Bool.{Bool, true, false, cond, _&&_, true≢false, false≢true
 use mathlib.Core.List.{List}
 use mathlib.Core.Logic.{_≢_}
 use Prim.Native.Nat.{ℕ, zero, suc, _+_, _-_, _≤_, _<_}
+use native.Mathlib.Nat.{le-trans}
 use native.Mathlib.Decide.{ℕ-discrete}
 use native.Mathlib.Omega.{arith}
 use borrow.Author.Tests.{leb-true, le-leb, ltb-true}
@@ -27,7 +28,7 @@ use Rattle.method.specs.declared.Turned.{Turned}
 use Rattle.method.specs.Board.{written, row, rowOf, lineOf, levelOf, registerOf, withRow, withLine, withRegister}
 use Rattle.method.specs.Steps.{writing, reachAt, reach, nextOp, absorb}
 use Rattle.method.specs.Turn.{turned, goesOn, readLine, perform, named, turn, after}
-use Rattle.method.specs.Demand.{Station}
+use Rattle.method.specs.Demand.{Station, isSettled}
 use Rattle.method.proofs.Parts.{Shape, row-shape, line-shape, register-shape, row-put, row-kept, line-put, line-kept, Put, kept, anew, register-cases}
 
 -- the operation of station i brings v, and leaves the record so
@@ -234,3 +235,52 @@ pub station-named : {l r n w : ℕ} {run : Run} (i : ℕ) → Shape l r n w run 
 unfolding named
 station-named {run = run} i s h st =
     rw (le-leb 1 i (st .low), le-leb i (run .stations) (omega (arith, st .high, s .counted)), le-leb i (length (run .rows)) (omega (arith, st .high, s .rows)))
+
+-- ---- the rows after a turn
+
+-- another station's row stays
+pub turn-row-other : {l r n w : ℕ} {run : Run} (i j : ℕ) → Shape l r n w run → 1 ≤ j → j ≢ i → rowOf (turn run i .run) j ≡ rowOf run j
+turn-row-other {run = run} i j s h f = go (turns run i)
+  where
+    done : {op : Op} {x : Turned} → 1 ≤ i → Performs run i op x → rowOf (x .run) j ≡ rowOf run j
+    done k (acts {v = v} {next = next} a) = goes-row-other next i v j k h f ∙ acts-row a j
+    done k idles = refl
+    done k (misses q) = refl
+
+    go : {x : Turned} → Turns run i x → rowOf (x .run) j ≡ rowOf run j
+    go (station q p) = done (named-station i s q .low) p
+    go (nobody q) = refl
+
+-- the named station's: one that has settled rests, and any other counts one turn more
+pub data RowAfter (run : Run) (i : ℕ) (x : Turned) : Type 0 where
+  worked : isSettled (rowOf run i .state) ≡ false → x .did ≡ Operation → rowOf (x .run) i .count ≡ rowOf run i .count + 1 → RowAfter run i x
+  rested : isSettled (rowOf run i .state) ≡ true → x .did ≡ Idle → x .run ≡ run → RowAfter run i x
+
+rests : (i : ℕ) (s : State) → nextOp i s ≡ Rest → isSettled s ≡ true
+unfolding nextOp
+rests i (NotBegun x) q = absurd (let z : _≡_ {A = ℕ} 0 1 = cc in omega arith)
+rests i (Uniting k own other Own round) q = absurd (not-at-board k _ own Rest refl q)
+rests i (Uniting k own other Other round) q = absurd (not-at-board k _ other Rest refl q)
+rests i (Gathering S j got) q = absurd (let z : _≡_ {A = ℕ} 0 1 = cc in omega arith)
+rests i (Settled S got) q = refl
+
+acts-unsettled : {run next : Run} {i v : ℕ} (s : State) → Acts run i (nextOp i s) v next → isSettled s ≡ false
+unfolding nextOp
+acts-unsettled (NotBegun x) a = refl
+acts-unsettled (Uniting k own other Own round) a = refl
+acts-unsettled (Uniting k own other Other round) a = refl
+acts-unsettled (Gathering S j got) a = refl
+
+pub turn-row : {l r n w : ℕ} {run : Run} (i : ℕ) → Shape l r n w run → n ≤ w → Station n i → (turn run i .did ≡ Unwritten → ⊥) → RowAfter run i (turn run i)
+turn-row {run = run} i s h st never = go (turns run i) never
+  where
+    done : {op : Op} {x : Turned} → nextOp i (rowOf run i .state) ≡ op → Performs run i op x → (x .did ≡ Unwritten → ⊥) → RowAfter run i x
+    done o (acts {v = v} {next = next} a) f =
+        worked (acts-unsettled (rowOf run i .state) (subst (λ (y : Op). Acts run i y v next) (sym o) a)) refl
+        (rw (goes-row (acts-shape s a) i v (st .low) (le-trans (st .high) h), acts-row a i))
+    done o idles f = rested (rests i (rowOf run i .state) o) refl refl
+    done o (misses q) f = absurd (f refl)
+
+    go : {x : Turned} → Turns run i x → (x .did ≡ Unwritten → ⊥) → RowAfter run i x
+    go (station q p) f = done refl p f
+    go (nobody q) f = absurd (false≢true (sym q ∙ station-named i s h st))
