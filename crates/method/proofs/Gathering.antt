@@ -10,21 +10,20 @@ use native.Mathlib.Omega.{arith}
 use lib.Bits.{or-zero-r}
 use lib.Dec.{eqb}
 use lib.ListN.{getD}
-use Rattle.sets.specs.Mask.{union, bit}
+use Rattle.sets.specs.Mask.{union, bit, holds}
 use Rattle.sets.proofs.Members.{bit-cases}
-use Rattle.sets.proofs.Digits.{holds-bit}
 use Rattle.sets.proofs.Subset.{Inside, inside-refl, inside-trans, inside-of-eq, none-inside, union-left, union-right, union-mono, member-inside}
 use Rattle.method.specs.Demand.{gathered, inputOf}
 
 module _ (inputs : List ℕ) where
   -- one station more, that is in the set or is not
   pub gathered-member : (S d : ℕ) → bit S d ≡ 1 → gathered inputs S (suc d) ≡ union (gathered inputs S d) (getD inputs d 0)
-  unfolding gathered
-  gathered-member S d h = let e : suc d - 1 ≡ d = omega arith in rw (holds-bit, h, e)
+  unfolding gathered holds
+  gathered-member S d h = let e : suc d - 1 ≡ d = omega arith in rw (h, e)
 
   gathered-other : (S d : ℕ) → bit S d ≡ 0 → gathered inputs S (suc d) ≡ gathered inputs S d
-  unfolding gathered
-  gathered-other S d h = rw (holds-bit, h) (or-zero-r (gathered inputs S d))
+  unfolding gathered holds
+  gathered-other S d h = rw h (or-zero-r (gathered inputs S d))
 
   -- no more comes from where the set has no member
   pub gathered-same : (S j k : ℕ) → j ≤ k → ((d : ℕ) → j ≤ d → d < k → bit S d ≡ 0) → gathered inputs S k ≡ gathered inputs S j
@@ -50,9 +49,9 @@ module _ (inputs : List ℕ) where
 
   -- and a larger set gathers more
   pub gathered-mono : (S T n : ℕ) → Inside S T → Inside (gathered inputs S n) (gathered inputs T n)
-  unfolding gathered
+  unfolding gathered holds
   gathered-mono S T zero p = none-inside 0
-  gathered-mono S T (suc n) p = union-mono (gathered-mono S T n p) (rw (holds-bit, holds-bit) (piece (bit-cases S n)))
+  gathered-mono S T (suc n) p = union-mono (gathered-mono S T n p) (piece (bit-cases S n))
     where
       piece : (bit S n ≡ 0) ⊎ (bit S n ≡ 1) → Inside (cond (eqb (bit S n) 1) (inputOf inputs (suc n)) 0) (cond (eqb (bit T n) 1) (inputOf inputs (suc n)) 0)
       piece (inl z) = rw z (none-inside _)

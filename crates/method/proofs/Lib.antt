@@ -9,3 +9,4 @@ pub mod Parts
 pub mod Turns
 pub mod Moments
 pub mod Counts
+pub mod Demand3

@@ -6,10 +6,9 @@ use native.Mathlib.Nat.{mod-lt, zero-lt-suc, zero-div, one-mul, mul-add-mod-self
 use native.Mathlib.Decide.{decLt}
 use native.Mathlib.Omega.{arith}
 use lib.Arith.{bin-ind}
-use lib.Dec.{eqb}
 use lib.Bits.{bitOr, or-shr, or-step, shifted-even}
 use lib.Pow.{shl-shr, pow-lt, pow-add}
-use Rattle.sets.specs.Mask.{union, bit, holds}
+use Rattle.sets.specs.Mask.{union, bit}
 use Rattle.sets.proofs.Members.{digit-zero, digit-half}
 
 pub bit-small : (s d : ℕ) → bit s d < 2
@@ -50,8 +49,3 @@ same-digits = bin-ind (λ (a : ℕ). (b : ℕ) → ((d : ℕ) → bit a d ≡ bi
 
     step : (a : ℕ) → ((b : ℕ) → ((d : ℕ) → bit (a / 2) d ≡ bit b d) → a / 2 ≡ b) → (b : ℕ) → ((d : ℕ) → bit a d ≡ bit b d) → a ≡ b
     step a ih b h = halves a b (ih (b / 2) (λ d. sym (digit-half a d) ∙ h (suc d) ∙ digit-half b d)) (h 0)
-
--- a member by its digit
-pub holds-bit : (s d : ℕ) → holds s (suc d) ≡ eqb (bit s d) 1
-unfolding holds
-holds-bit s d = refl

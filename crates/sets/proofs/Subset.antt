@@ -1,14 +1,16 @@
 -- One set inside another, and their sizes.
 use mathlib.Core.Path.{_≡_, refl, sym, ap, ap₂, _∙_, subst}
+use mathlib.Core.Bool.{true}
 use mathlib.Core.Logic.{_⊎_, inl, inr}
 use Prim.Native.Nat.{ℕ, zero, suc, _+_, _-_, _*_, _/_, _%_, _^_, _≤_, _<_, max}
 use native.Mathlib.Nat.{le-trans, le-refl, mod-lt, zero-lt-suc, zero-add, one-mul, add-zero, le-of-eq}
 use native.Mathlib.Omega.{arith}
+use borrow.Author.Tests.{eqb-true, eq-eqb}
 use lib.Arith.{bin-ind, digits-div, digits-mod}
 use lib.Bits.{or-step, or-zero-l}
 use lib.Count.{ones, ones-step, ones-cat}
 use lib.Pow.{pow-pos}
-use Rattle.sets.specs.Mask.{size, union, bit}
+use Rattle.sets.specs.Mask.{size, union, bit, holds}
 use Rattle.sets.proofs.Members.{bit-cases, digit-zero, digit-half}
 use Rattle.sets.proofs.Digits.{bit-small, bit-none, bit-union, bit-alone, bit-alone-only}
 
@@ -44,6 +46,11 @@ union-mono {c = c} {d = d} p q = union-inside (inside-trans p (union-left c d)) 
 -- a member of the smaller is one of the larger
 pub member-inside : {a b : ℕ} (d : ℕ) → Inside a b → bit a d ≡ 1 → bit b d ≡ 1
 member-inside {a} {b} d p h = omega (arith, p .digit d, bit-small b d)
+
+pub holds-inside : {a b : ℕ} (i : ℕ) → Inside a b → holds a i ≡ true → holds b i ≡ true
+unfolding holds
+holds-inside zero p h = h
+holds-inside {a} {b} (suc d) p h = eq-eqb (bit b d) 1 (member-inside d p (eqb-true (bit a d) 1 h))
 
 -- ---- sizes
 
