@@ -1,57 +1,50 @@
--- N is the least number with 2^N at least n.
-use Prim.Native.Nat.{ℕ, zero, suc, _+_, _^_, _≤_, _<_}
+-- The number of levels: the least N with 2 ^ N at least n.
 use mathlib.Core.Path.{_≡_, refl, sym, ap, _∙_}
 use mathlib.Core.Bool.{Bool, true, false}
-use mathlib.Core.Logic.{⊎-elim}
-use native.Mathlib.Nat.{le-antisymm, le-of-lt, not-le-of-lt, eq-or-lt-of-le}
-use native.Mathlib.Decide.{decLt}
+use Prim.Native.Nat.{ℕ, zero, suc, _+_, _^_, _≤_, _<_}
+use native.Mathlib.Nat.{le-of-lt, le-antisymm, not-le-of-lt, add-zero, add-suc, suc-add, zero-add}
+use native.Mathlib.Decide.{ℕ-discrete, decLt}
 use native.Mathlib.Omega.{arith}
 use borrow.Author.Tests.{leb-true, leb-false}
 use lib.Dec.{leb}
 use Rattle.sets.proofs.Members.{below-power}
-use Rattle.method.specs.Board.{depth, depthFrom}
+use Rattle.method.specs.Board.{depthFrom, depth}
 
--- one step of the look
-stops : (most N n : ℕ) → leb n (2 ^ N) ≡ true → depthFrom (suc most) N n ≡ N
+from-enough : (most N n : ℕ) → n ≤ 2 ^ (N + most) → n ≤ 2 ^ depthFrom most N n
 unfolding depthFrom
-stops most N n e = rw (e, depthFrom)
-
-goes-on : (most N n : ℕ) → leb n (2 ^ N) ≡ false → depthFrom (suc most) N n ≡ depthFrom most (suc N) n
-unfolding depthFrom
-goes-on most N n e = rw (e, depthFrom)
-
-reaches : (most N n : ℕ) → n ≤ 2 ^ (N + most) → n ≤ 2 ^ depthFrom most N n
-unfolding depthFrom
-reaches zero N n h = let z : N + 0 ≡ N = omega arith in rw z at h
-reaches (suc most) N n h = go (leb n (2 ^ N)) refl (reaches most (suc N) n (let z : N + suc most ≡ suc N + most = omega arith in rw z at h))
+from-enough zero N n h = rw add-zero at h
+from-enough (suc most) N n h = go (leb n (2 ^ N)) refl (from-enough most (suc N) n)
   where
-    go : (b : Bool) → leb n (2 ^ N) ≡ b → n ≤ 2 ^ depthFrom most (suc N) n → n ≤ 2 ^ depthFrom (suc most) N n
-    go true e ih = rw (stops most N n e) (leb-true _ _ e)
-    go false e ih = rw (goes-on most N n e) ih
+    go : (w : Bool) → leb n (2 ^ N) ≡ w → (n ≤ 2 ^ (suc N + most) → n ≤ 2 ^ depthFrom most (suc N) n)
+        → n ≤ 2 ^ (elim w [ true ↦ N | false ↦ depthFrom most (suc N) n ])
+    go true q ih = leb-true n (2 ^ N) q
+    go false q ih = ih (rw (suc-add, ← (add-suc N most)) h)
 
-least : (most N n M : ℕ) → N ≤ M → n ≤ 2 ^ M → depthFrom most N n ≤ M
+from-least : (most N n k : ℕ) → n ≤ 2 ^ k → N ≤ k → depthFrom most N n ≤ k
 unfolding depthFrom
-least zero N n M l h = l
-least (suc most) N n M l h = go (leb n (2 ^ N)) refl (λ (m : suc N ≤ M). least most (suc N) n M m h)
+from-least zero N n k h l = l
+from-least (suc most) N n k h l = go (leb n (2 ^ N)) refl (from-least most (suc N) n k h)
   where
-    go : (b : Bool) → leb n (2 ^ N) ≡ b → (suc N ≤ M → depthFrom most (suc N) n ≤ M) → depthFrom (suc most) N n ≤ M
-    go true e ih = rw (stops most N n e) l
-    go false e ih =
-        rw (goes-on most N n e)
-        (⊎-elim (λ (s : N ≡ M). absurd (not-le-of-lt (leb-false _ _ e) (rw (← s) at h))) ih (eq-or-lt-of-le l))
+    go : (w : Bool) → leb n (2 ^ N) ≡ w → (suc N ≤ k → depthFrom most (suc N) n ≤ k) → elim w [ true ↦ N | false ↦ depthFrom most (suc N) n ] ≤ k
+    go true q ih = l
+    go false q ih = ih (above (ℕ-discrete N k))
+      where
+        above : Dec (N ≡ k) → suc N ≤ k
+        above (yes e) = absurd (omega (arith, leb-false n (2 ^ N) q, ap (λ (x : ℕ). 2 ^ x) e))
+        above (no f) = omega arith
 
-pub depth-reaches : (n : ℕ) → n ≤ 2 ^ depth n
+pub depth-enough : (n : ℕ) → n ≤ 2 ^ depth n
 unfolding depth
-depth-reaches n = reaches n 0 n (let z : 0 + n ≡ n = omega arith in rw z (le-of-lt (below-power n)))
+depth-enough n = from-enough n 0 n (rw zero-add (le-of-lt (below-power n)))
 
-pub depth-least : (n M : ℕ) → n ≤ 2 ^ M → depth n ≤ M
+pub depth-least : (n k : ℕ) → n ≤ 2 ^ k → depth n ≤ k
 unfolding depth
-depth-least n M h = least n 0 n M (omega arith) h
+depth-least n k h = from-least n 0 n k h (omega arith)
 
 -- no other number is the least
 pub depth-is : (n N : ℕ) → n ≤ 2 ^ N → ((M : ℕ) → M < N → 2 ^ M < n) → N ≡ depth n
 depth-is n N h below = le-antisymm (go (decLt (depth n) N)) (depth-least n N h)
   where
     go : Dec (depth n < N) → N ≤ depth n
-    go (yes l) = absurd (not-le-of-lt (below (depth n) l) (depth-reaches n))
+    go (yes l) = absurd (not-le-of-lt (below (depth n) l) (depth-enough n))
     go (no l) = omega arith

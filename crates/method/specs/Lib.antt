@@ -2,4 +2,5 @@
 pub mod Board
 pub mod Steps
 pub mod Turn
+pub mod Demand
 pub mod Worked

@@ -166,10 +166,10 @@ pub record Gap (k n z : ℕ) : Type 0 where
   pub zeros : (d : ℕ) → d < z → bit n d ≡ 0
 
 -- digit 0 is the remainder, and the digits above it are those of the half
-digit-zero : (n : ℕ) → bit n 0 ≡ n % 2
+pub digit-zero : (n : ℕ) → bit n 0 ≡ n % 2
 digit-zero n = ap (λ (x : ℕ). x % 2) (div-one n)
 
-digit-half : (n d : ℕ) → bit n (suc d) ≡ bit (n / 2) d
+pub digit-half : (n d : ℕ) → bit n (suc d) ≡ bit (n / 2) d
 digit-half n d =
     let e : 1 + d ≡ suc d = omega arith in
     ap (λ (x : ℕ). x % 2) (ap (λ (x : ℕ). n / 2 ^ x) (sym e) ∙ sym (shr-shr n 1 d))
