@@ -123,7 +123,7 @@ module _ (l r n : ℕ) (inputs : List ℕ) (fits : Fits l r n inputs) (order : L
       go : (w : Bool) → isSettled (rowOf (run t) i .state) ≡ w
           → (isSettled (rowOf (run t) i .state) ≡ false → turnsUnsettled (freshOn l r n inputs) order t i ≡ timesNamed order t i)
           → turnsUnsettled (freshOn l r n inputs) order t i + one (eqb (names t) i && not (isSettled (rowOf (run t) i .state)))
-            ≡ timesNamed order t i + one (eqb (names t) i)
+          ≡ timesNamed order t i + one (eqb (names t) i)
       go true w ih = absurd (true≢false (sym w ∙ ap (λ (x : Row). isSettled (x .state)) (sym (settled-stays t i s w)) ∙ q))
       go false w ih = rw (ih w, w, and-true)
 

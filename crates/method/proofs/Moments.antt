@@ -135,8 +135,10 @@ module _ (l r n : ℕ) (inputs : List ℕ) (fits : Fits l r n inputs) (order : L
     reached {i} {d} {b} {c} {v} {x} {nx} q read h k a reg ok = go (writing x) refl (rw q at a)
       where
         go : (w : Bool) → writing x ≡ w → Acts now i (reachAt w (suc d) (suc b) x) v nx → BoardOk m P (suc t) × Answer m (suc t) d b x v
-        go true w a = (record { holds = λ d' b' p' l' f. there d' b' p' l' f (register-cases now (suc d) (suc b) (suc (x .known)) (x .set) (suc d') (suc b') (suc p')) },
-          record { filled = λ z. rw (put-reg, in-place) (counted (x .set) (omega (arith, less))); shown = λ z. absurd (true≢false (sym w ∙ z)) })
+        go true w a = (
+          record { holds = λ d' b' p' l' f. there d' b' p' l' f (register-cases now (suc d) (suc b) (suc (x .known)) (x .set) (suc d') (suc b') (suc p')) },
+          record { filled = λ z. rw (put-reg, in-place) (counted (x .set) (omega (arith, less))); shown = λ z. absurd (true≢false (sym w ∙ z)) },
+        )
           where
             less : x .known < size (x .set)
             less = ltb-true (x .known) (size (x .set)) w
@@ -212,7 +214,7 @@ module _ (l r n : ℕ) (inputs : List ℕ) (fits : Fits l r n inputs) (order : L
 
     -- a turn of station e + 1 that makes an operation
     module _ (e v : ℕ) {nx : Run} (h : e < n) (a : Acts now (suc e) (nextOp (suc e) (rowOf now (suc e) .state)) v nx) (is : next ≡ goesOn nx (suc e) v)
-      (names : 1 ≤ timesNamed order (suc t) (suc e)) where
+        (names : 1 ≤ timesNamed order (suc t) (suc e)) where
       reg : (k c j : ℕ) → registerOf next k c j ≡ registerOf nx k c j
       reg k c j = ap (λ (x : Run). registerOf x k c j) is ∙ goes-register nx (suc e) v k c j
 

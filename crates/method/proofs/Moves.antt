@@ -198,7 +198,7 @@ module _ (N n : ℕ) (inputs : List ℕ) {m : History} (board : Lasting m) {P : 
       where
         go : (v : Bool) → pending (suc d) own ≡ v → (w : Bool) → pending (suc d) other ≡ w
             → Ok (cond v (Uniting (suc d) own other Own Unchanged)
-              (cond w (Uniting (suc d) own other Other Unchanged) (climb N (suc d) (union (own .set) (other .set))))) c
+            (cond w (Uniting (suc d) own other Other Unchanged) (climb N (suc d) (union (own .set) (other .set))))) c
         go true p w q = unites pair (own-calm x y l f s) p k
         go false p true q = unites {round = Unchanged} pair (other-calm x y l record { full = f; stop = full-up (pair .ours) p u } s) q (less k)
         go false p false q = finish record { full = f; stop = full-up (pair .ours) p u } s (less (less k))
@@ -294,7 +294,7 @@ module _ (N n : ℕ) (inputs : List ℕ) {m : History} (board : Lasting m) {P : 
         where
           go : (w : Bool) → writing own ≡ w → (z : Bool) → eqb v 0 ≡ z
               → Ok (cond w (readOwn N (suc d) (wrote own) other round)
-                (cond z (readOther N (suc d) own other round) (readOwn N (suc d) (found own v) other (changed round)))) (suc c)
+              (cond z (readOther N (suc d) own other round) (readOwn N (suc d) (found own v) other (changed round)))) (suc c)
           go true w z q =
               let x = write-own s (ltb-true (own .known) (size (own .set)) w) k in
               own-on record { within = pair .within; ours = wrote-read (pair .ours) v a w; theirs = pair .theirs; self = pair .self } round (x .0) (x .1)
@@ -322,7 +322,7 @@ module _ (N n : ℕ) (inputs : List ℕ) {m : History} (board : Lasting m) {P : 
         where
           go : (w : Bool) → writing other ≡ w → (z : Bool) → eqb v 0 ≡ z
               → Ok (cond w (readOther N (suc d) own (wrote other) round)
-                (cond z (roundOver N (suc d) own other round) (readOther N (suc d) own (found other v) (changed round)))) (suc c)
+              (cond z (roundOver N (suc d) own other round) (readOther N (suc d) own (found other v) (changed round)))) (suc c)
           go true w z q =
               let x = write-other s (ltb-true (other .known) (size (other .set)) w) k in
               other-on record { within = pair .within; ours = pair .ours; theirs = wrote-read (pair .theirs) v a w; self = pair .self } round (x .0) (x .1)

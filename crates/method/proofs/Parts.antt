@@ -189,6 +189,6 @@ pub put-there : (d b p d' b' p' : ℕ) → p < 2 ^ d → p' < 2 ^ d' → suc d' 
 put-there d b p d' b' p' h h' q s =
     let x : d' ≡ d = omega arith in
     let y : b' * 2 ^ d + p' ≡ b * 2 ^ d + p =
-        ap (λ (z : ℕ). b' * 2 ^ z + p') (sym x) ∙ sym (place-of-block d' b' p') ∙ s ∙ place-of-block d b p in
+    ap (λ (z : ℕ). b' * 2 ^ z + p') (sym x) ∙ sym (place-of-block d' b' p') ∙ s ∙ place-of-block d b p in
     let z = same-place d b' p' b p (rw x at h') h y in
     (x, z .0, z .1)
