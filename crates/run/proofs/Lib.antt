@@ -1,3 +1,5 @@
 -- Laws for the proofs of this crate.
 mod Little
 mod Laid
+mod Judging
+mod Agree

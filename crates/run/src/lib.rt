@@ -8,3 +8,9 @@ mod words;
 
 // A row's answer bytes.
 mod told;
+
+// The refusals before the first turn.
+mod tests;
+
+// The exported call.
+pub mod call;

@@ -1,0 +1,182 @@
+-- A call that passed the tests: what is played on the record is the method's run, and the answer is its rows.
+use Prim.Native.Nat.{ℕ, zero, suc, _+_, _*_, _^_, _≤_, _<_}
+use mathlib.Core.Path.{_≡_, refl, sym, ap, _∙_}
+use mathlib.Core.Logic.{⊎-elim}
+use mathlib.Core.Bool.{Bool, true, false, cond, not, _&&_, false≢true}
+use mathlib.Core.List.{List, _++_}
+use native.Mathlib.Nat.{eq-or-lt-of-le, le-antisymm, le-refl}
+use native.Mathlib.Omega.{arith}
+use borrow.Author.Tests.{lt-ltb, le-ltb, leb-true}
+use lib.Dec.{leb, ltb}
+use lib.ListN.{length, getD, drop}
+use lib.Pow.{pow-mono}
+use Rattle.method.specs.declared.Row.{Row}
+use Rattle.method.specs.declared.Run.{Run}
+use Rattle.method.specs.declared.Turned.{Turned}
+use Rattle.method.specs.Board.{levels, registers, depth, fresh, freshOn, rowOf}
+use Rattle.method.specs.Turn.{turn, after}
+use Rattle.method.specs.Demand.{Fits, Station}
+use Rattle.method.proofs.Depth.{depth-least}
+use Rattle.method.proofs.Demand3.{count-within}
+use Rattle.board.specs.declared.playing.Played.{Played}
+use Rattle.board.specs.Step.{stepOf, countEnd}
+use Rattle.board.specs.Playing.{stepped, firstFrom, isUnwritten, unwrittenStep, stopsAt, playedOf}
+use Rattle.run.specs.declared.verdict.Verdict.{Verdict}
+use Rattle.run.specs.declared.verdict.Verdict.the-variants.{Accepted, NoStations, WrongInputs, TooManyTurns, BadTurn, ShortAnswer, UnwrittenLine}
+use Rattle.run.specs.Bytes.{inputsIn}
+use Rattle.run.specs.Answer.{answerBytes}
+use Rattle.run.specs.Call.{numberOf, isAccepted, isBad, firstBad, tests, readsUnwritten, firstUnwritten, begun, playedOut, verdictOf, answerFor, returned, answered, Called}
+use Rattle.run.proofs.Judging.{Taken, taken}
+use Rattle.run.proofs.Little.{inputs-length}
+
+-- ---- looking for the first at which a test holds
+
+from-true : (f : ℕ → Bool) (t left : ℕ) → f t ≡ true → firstFrom f t (suc left) ≡ t
+unfolding firstFrom
+from-true f t left e = rw (e, firstFrom)
+
+from-false : (f : ℕ → Bool) (t left : ℕ) → f t ≡ false → firstFrom f t (suc left) ≡ firstFrom f (suc t) left
+unfolding firstFrom
+from-false f t left e = rw (e, firstFrom)
+
+-- two tests that agree on the way stop at the same
+first-same : (f g : ℕ → Bool) (t left : ℕ) → ((u : ℕ) → t ≤ u → u < t + left → f u ≡ g u) → firstFrom f t left ≡ firstFrom g t left
+unfolding firstFrom
+first-same f g t zero h = refl
+first-same f g t (suc left) h =
+    go (g t) refl (first-same f g (suc t) left (λ u a b. h u (omega arith) (omega arith)))
+  where
+    go : (b : Bool) → g t ≡ b → firstFrom f (suc t) left ≡ firstFrom g (suc t) left → firstFrom f t (suc left) ≡ firstFrom g t (suc left)
+    go true e ih = from-true f t left (h t (omega arith) (omega arith) ∙ e) ∙ sym (from-true g t left e)
+    go false e ih = from-false f t left (h t (omega arith) (omega arith) ∙ e) ∙ ih ∙ sym (from-false g t left e)
+
+-- the end is not passed
+first-within : (f : ℕ → Bool) (t left : ℕ) → firstFrom f t left ≤ t + left
+unfolding firstFrom
+first-within f t zero = omega arith
+first-within f t (suc left) = go (f t) refl (first-within f (suc t) left)
+  where
+    go : (w : Bool) → f t ≡ w → firstFrom f (suc t) left ≤ suc t + left → firstFrom f t (suc left) ≤ t + suc left
+    go true e ih = rw (from-true f t left e) (omega arith)
+    go false e ih = rw (from-false f t left e) (omega arith)
+
+-- where the end is reached, the test held nowhere
+first-past : (f : ℕ → Bool) (t left u : ℕ) → t + left ≤ firstFrom f t left → t ≤ u → u < t + left → f u ≡ false
+unfolding firstFrom
+first-past f t zero u h a b = absurd (omega arith)
+first-past f t (suc left) u h a b = go (f t) refl (λ p q. first-past f (suc t) left u p q (omega arith))
+  where
+    go : (w : Bool) → f t ≡ w → (suc t + left ≤ firstFrom f (suc t) left → suc t ≤ u → f u ≡ false) → f u ≡ false
+    go true e ih = let z : t + suc left ≤ t = rw (from-true f t left e) at h in absurd (omega arith)
+    go false e ih =
+        let r : t + suc left ≤ firstFrom f (suc t) left = rw (from-false f t left e) at h in
+        ⊎-elim (λ (s : t ≡ u). rw (← s) e) (λ (l : t < u). ih (omega arith) l) (eq-or-lt-of-le a)
+
+-- ---- the turns of a call that passed the tests name stations
+
+good : (n : ℕ) (turns : List ℕ) (t : ℕ) → isBad n turns t ≡ false → Station n (getD turns t 0)
+good n turns t e = go (leb 1 (getD turns t 0)) (leb (getD turns t 0) n) refl refl e
+  where
+    go : (a b : Bool) → leb 1 (getD turns t 0) ≡ a → leb (getD turns t 0) n ≡ b → not (a && b) ≡ false → Station n (getD turns t 0)
+    go true true p q z = record { low = leb-true _ _ p; high = leb-true _ _ q }
+    go true false p q z = absurd (false≢true (sym z))
+    go false b p q z = absurd (false≢true (sym z))
+
+module _ (n : ℕ) (stocks turns : List ℕ) (high : n ≤ 16) (sixteen : length stocks ≡ 16) (few : length turns ≤ 4096) (past : length turns ≤ firstBad n turns) where
+  stations : (t : ℕ) → t < length turns → Station n (getD turns t 0)
+  unfolding firstBad
+  stations t h = good n turns t (first-past (isBad n turns) 0 (length turns) t (let z : 0 + length turns ≡ length turns = omega arith in rw z past) (omega arith) (omega arith))
+
+  fits : Fits levels registers n stocks
+  fits =
+      let deep : depth n ≤ 4 = depth-least n 4 high in
+      record { deep = deep; wide = pow-mono deep; given = rw sixteen high }
+
+  -- no count comes near its end
+  step-turn : (t : ℕ) → t < length turns → stepOf (after (fresh n stocks) turns t) (getD turns t 0) ≡ turn (after (fresh n stocks) turns t) (getD turns t 0)
+  unfolding stepOf fresh
+  step-turn t h =
+      let c : rowOf (after (freshOn 4 16 n stocks) turns t) (getD turns t 0) .count ≤ t = count-within fits turns t (getD turns t 0) (stations t h) in
+      rw (lt-ltb (rowOf (after (freshOn 4 16 n stocks) turns t) (getD turns t 0) .count) countEnd (omega arith))
+
+  pub stepped-after : (t : ℕ) → t ≤ length turns → stepped (fresh n stocks) turns t ≡ after (fresh n stocks) turns t
+  unfolding stepped after
+  stepped-after zero h = refl
+  stepped-after (suc t) h =
+      ap (λ (r : Run). stepOf r (getD turns t 0) .run) (stepped-after t (omega arith)) ∙ ap (λ (x : Turned). x .run) (step-turn t h)
+
+  pub stops-first : stopsAt (fresh n stocks) turns ≡ firstUnwritten (fresh n stocks) turns
+  unfolding stopsAt firstUnwritten
+  stops-first =
+      first-same (unwrittenStep (fresh n stocks) turns) (readsUnwritten (fresh n stocks) turns) 0 (length turns)
+      (λ u a b. rw (stepped-after u (omega arith), step-turn u (omega arith)))
+
+within : (run : Run) (turns : List ℕ) → stopsAt run turns ≤ length turns
+unfolding stopsAt
+within run turns = let b = first-within (unwrittenStep run turns) 0 (length turns) in omega arith
+
+module _ (n : ℕ) (inputs turns answer : List ℕ) (e : tests n (length inputs) turns (length answer) ≡ Accepted) where
+  t : Taken n (length inputs) turns (length answer)
+  t = taken n (length inputs) turns (length answer) e
+
+  stop : stopsAt (begun n inputs) turns ≡ firstUnwritten (begun n inputs) turns
+  stop = stops-first n (inputsIn 16 inputs) turns (t .high) (inputs-length 16 inputs) (t .few) (t .good)
+
+  pub called-stopped : (out : Played) → out ≡ playedOf (begun n inputs) turns → out .at < length turns → Called n inputs turns answer (UnwrittenLine (out .at)) answer
+  unfolding verdictOf
+  called-stopped out p h =
+      let at : out .at ≡ firstUnwritten (begun n inputs) turns = ap (λ (x : Played). x .at) p ∙ stop in
+      let v : UnwrittenLine (out .at) ≡ verdictOf n inputs turns answer = rw (e, ← at, lt-ltb _ _ h) in
+      record { came = v; left = rw (← v) }
+
+  pub called-done : (out : Played) (last : List ℕ) → out ≡ playedOf (begun n inputs) turns → length turns ≤ out .at → last ≡ answerBytes n (out .run .rows) ++ drop (20 * n) answer → Called n inputs turns answer Accepted last
+  unfolding verdictOf
+  called-done out last p h f =
+      let at : out .at ≡ firstUnwritten (begun n inputs) turns = ap (λ (x : Played). x .at) p ∙ stop in
+      let end : stopsAt (begun n inputs) turns ≡ length turns =
+      le-antisymm (within (begun n inputs) turns) (rw (ap (λ (x : Played). x .at) p) at h) in
+      let ran : out .run ≡ after (begun n inputs) turns (length turns) =
+      ap (λ (x : Played). x .run) p ∙ ap (λ (u : ℕ). stepped (begun n inputs) turns u) end
+      ∙ stepped-after n (inputsIn 16 inputs) turns (t .high) (inputs-length 16 inputs) (t .few) (t .good) (length turns) (le-refl (length turns)) in
+      let v : Accepted ≡ verdictOf n inputs turns answer = rw (e, ← at, le-ltb _ _ h) in
+      record { came = v; left = f ∙ rw (← v, ran) }
+
+-- what is played from the call's own inputs
+pub played-begun : (n : ℕ) (inputs turns stocks : List ℕ) (start : Run) (out : Played) → stocks ≡ inputsIn 16 inputs → start ≡ fresh n stocks → out ≡ playedOf start turns → out ≡ playedOf (begun n inputs) turns
+played-begun n inputs turns stocks start out p q r = rw (← p, ← q) r
+
+-- ---- a call that did not pass them
+
+pub is-accepted : (v : Verdict) → isAccepted v ≡ true → v ≡ Accepted
+is-accepted Accepted e = refl
+is-accepted NoStations e = absurd (false≢true e)
+is-accepted WrongInputs e = absurd (false≢true e)
+is-accepted TooManyTurns e = absurd (false≢true e)
+is-accepted (BadTurn at) e = absurd (false≢true e)
+is-accepted ShortAnswer e = absurd (false≢true e)
+is-accepted (UnwrittenLine at) e = absurd (false≢true e)
+
+stays : (run : Run) (turns : List ℕ) (v : Verdict) → isAccepted v ≡ false → playedOut run turns v ≡ v
+stays run turns Accepted e = absurd (false≢true (sym e))
+stays run turns NoStations e = refl
+stays run turns WrongInputs e = refl
+stays run turns TooManyTurns e = refl
+stays run turns (BadTurn at) e = refl
+stays run turns ShortAnswer e = refl
+stays run turns (UnwrittenLine at) e = refl
+
+untouched : (n : ℕ) (inputs turns answer : List ℕ) (v : Verdict) → isAccepted v ≡ false → answerFor n inputs turns answer v ≡ answer
+untouched n inputs turns answer Accepted e = absurd (false≢true (sym e))
+untouched n inputs turns answer NoStations e = refl
+untouched n inputs turns answer WrongInputs e = refl
+untouched n inputs turns answer TooManyTurns e = refl
+untouched n inputs turns answer (BadTurn at) e = refl
+untouched n inputs turns answer ShortAnswer e = refl
+untouched n inputs turns answer (UnwrittenLine at) e = refl
+
+pub refused-call : (n : ℕ) (inputs turns answer : List ℕ) (v : Verdict) (r : ℕ) → v ≡ tests n (length inputs) turns (length answer) → isAccepted v ≡ false → r ≡ numberOf v
+    → (r ≡ returned n inputs turns answer) × (answer ≡ answered n inputs turns answer)
+unfolding verdictOf
+refused-call n inputs turns answer v r e f g =
+    let same : verdictOf n inputs turns answer ≡ v = ap (playedOut (begun n inputs) turns) (sym e) ∙ stays (begun n inputs) turns v f in
+    (g ∙ ap numberOf (sym same), sym (ap (answerFor n inputs turns answer) same ∙ untouched n inputs turns answer v f))

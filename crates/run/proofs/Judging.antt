@@ -1,0 +1,110 @@
+-- The refusals before the first turn, by their tests, and what a call that passes them has.
+use Prim.Native.Nat.{ℕ, zero, suc, _+_, _*_, _≤_, _<_}
+use mathlib.Core.Path.{_≡_, refl, sym, ap, _∙_}
+use mathlib.Core.Bool.{Bool, true, false, cond, not, _&&_, and-false, false≢true}
+use mathlib.Core.List.{List}
+use native.Mathlib.Omega.{arith}
+use borrow.Author.Tests.{lt-ltb, le-ltb, ltb-false, le-leb, lt-leb, leb-true, eq-eqb, ne-eqb, eqb-true}
+use lib.Dec.{leb, ltb, eqb}
+use lib.ListN.{length, getD}
+use Rattle.board.specs.Playing.{firstFrom}
+use Rattle.run.specs.declared.verdict.Verdict.{Verdict}
+use Rattle.run.specs.declared.verdict.Verdict.the-variants.{Accepted, NoStations, WrongInputs, TooManyTurns, BadTurn, ShortAnswer, UnwrittenLine}
+use Rattle.run.specs.Call.{numberOf, isAccepted, mostTurns, isBad, firstBad, tests}
+
+-- ---- the number of a refusal with a place
+
+pub number-bad : (v : Verdict) (at : ℕ) → v ≡ BadTurn at → 4 + 100 * at ≡ numberOf v
+number-bad v at e = rw e
+
+pub number-unwritten : (v : Verdict) (at : ℕ) → v ≡ UnwrittenLine at → 6 + 100 * at ≡ numberOf v
+number-unwritten v at e = rw e
+
+-- ---- a turn that is no station
+
+pub bad-zero : (n : ℕ) (turns : List ℕ) (t : ℕ) → getD turns t 0 ≡ 0 → isBad n turns t ≡ true
+bad-zero n turns t e = rw e
+
+pub bad-high : (n : ℕ) (turns : List ℕ) (t : ℕ) → n < getD turns t 0 → isBad n turns t ≡ true
+bad-high n turns t h = rw (lt-leb _ _ h, and-false (leb 1 (getD turns t 0)))
+
+pub good-turn : (n : ℕ) (turns : List ℕ) (t : ℕ) → (getD turns t 0 ≡ 0 → ⊥) → getD turns t 0 ≤ n → isBad n turns t ≡ false
+good-turn n turns t z h = rw (le-leb 1 (getD turns t 0) (omega arith), le-leb _ _ h)
+
+-- ---- the tests, by the one that decides
+
+module _ (n inputs : ℕ) (turns : List ℕ) (size : ℕ) where
+  pub no-stations : n ≡ 0 → NoStations ≡ tests n inputs turns size
+  unfolding tests
+  no-stations e = rw e
+
+  pub many-stations : 16 < n → NoStations ≡ tests n inputs turns size
+  unfolding tests
+  many-stations h = rw (lt-leb n 16 h, and-false (leb 1 n))
+
+  module _ (low : n ≡ 0 → ⊥) (high : n ≤ 16) where
+    pub wrong-inputs : (inputs ≡ 8 * n → ⊥) → WrongInputs ≡ tests n inputs turns size
+    unfolding tests
+    wrong-inputs e = rw (le-leb 1 n (omega arith), le-leb n 16 high, ne-eqb _ _ e)
+
+    module _ (given : inputs ≡ 8 * n) where
+      pub many-turns : 4096 < length turns → TooManyTurns ≡ tests n inputs turns size
+      unfolding tests
+      many-turns h = rw (le-leb 1 n (omega arith), le-leb n 16 high, eq-eqb _ _ given, lt-leb _ _ h)
+
+      module _ (few : length turns ≤ 4096) (bad : ℕ) (found : bad ≡ firstBad n turns) where
+        pub bad-turn : bad < length turns → BadTurn bad ≡ tests n inputs turns size
+        unfolding tests
+        bad-turn h = rw (le-leb 1 n (omega arith), le-leb n 16 high, eq-eqb _ _ given, le-leb _ _ few, ← found, lt-ltb _ _ h)
+
+        pub short-answer : length turns ≤ bad → size < 20 * n → ShortAnswer ≡ tests n inputs turns size
+        unfolding tests
+        short-answer h s = rw (le-leb 1 n (omega arith), le-leb n 16 high, eq-eqb _ _ given, le-leb _ _ few, ← found, le-ltb _ _ h, lt-leb _ _ s)
+
+        pub accepted : length turns ≤ bad → 20 * n ≤ size → Accepted ≡ tests n inputs turns size
+        unfolding tests
+        accepted h s = rw (le-leb 1 n (omega arith), le-leb n 16 high, eq-eqb _ _ given, le-leb _ _ few, ← found, le-ltb _ _ h, le-leb _ _ s)
+
+-- ---- a call that passes them all
+
+pub record Taken (n inputs : ℕ) (turns : List ℕ) (size : ℕ) : Type 0 where
+  pub low : 1 ≤ n
+  pub high : n ≤ 16
+  pub given : inputs ≡ 8 * n
+  pub few : length turns ≤ 4096
+  pub good : length turns ≤ firstBad n turns
+  pub wide : 20 * n ≤ size
+
+-- a refusal is not Accepted
+refused : (v : Verdict) → isAccepted v ≡ false → v ≡ Accepted → ⊥
+refused v f e = let z : false ≡ true = sym f ∙ ap isAccepted e in false≢true z
+
+passes : (b : Bool) (x y : Verdict) → isAccepted y ≡ false → cond b x y ≡ Accepted → (b ≡ true) × (x ≡ Accepted)
+passes true x y f e = (refl, e)
+passes false x y f e = absurd (refused y f e)
+
+spared : (b : Bool) (x y : Verdict) → isAccepted x ≡ false → cond b x y ≡ Accepted → (b ≡ false) × (y ≡ Accepted)
+spared true x y f e = absurd (refused x f e)
+spared false x y f e = (refl, e)
+
+both : (a b : Bool) → (a && b) ≡ true → (a ≡ true) × (b ≡ true)
+both true b e = (refl, e)
+both false b e = absurd (false≢true e)
+
+pub taken : (n inputs : ℕ) (turns : List ℕ) (size : ℕ) → tests n inputs turns size ≡ Accepted → Taken n inputs turns size
+unfolding tests
+taken n inputs turns size e =
+    let one = passes _ _ _ refl e in
+    let two = passes _ _ _ refl (one .1) in
+    let three = passes _ _ _ refl (two .1) in
+    let four = spared _ _ _ refl (three .1) in
+    let five = passes _ _ _ refl (four .1) in
+    let count = both _ _ (one .0) in
+    record {
+      low = leb-true _ _ (count .0);
+      high = leb-true _ _ (count .1);
+      given = eqb-true _ _ (two .0);
+      few = leb-true _ _ (three .0);
+      good = ltb-false _ _ (four .0);
+      wide = leb-true _ _ (five .0);
+    }

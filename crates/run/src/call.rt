@@ -1,0 +1,42 @@
+// The run call, for the RIP's host program in C.
+ghost use mathlib.Core.Path.{_≡_};
+ghost use lib.ListN.{length};
+ghost use Rattle.run.specs.declared.verdict.Verdict.the-variants.{Accepted};
+ghost use Rattle.run.specs.Call.{tests, begun, playedOut, answerFor, returned, answered, Called};
+use super::tests::tested;
+use super::told;
+use super::verdict::Verdict;
+use super::verdict::is_accepted;
+use super::verdict::number_of;
+use super::words;
+
+// A call that passed the tests: it is run, and the answer is written after the last turn.
+fn carried_out(n: u64, inputs: &[u8], turns: &[u8], answer: &mut [u8]) -> Verdict
+    requires { ⌜ tests n (length (now inputs)) (now turns) (length (now answer)) ≡ Accepted ⌝ }
+    ensures { λ r. ⌜ Called n (now (inputs .entry)) (now (turns .entry)) (now (answer .entry)) r (now (answer .exit)) ⌝ }
+{
+    let stations = n as usize;
+    let start = board::start::fresh(n as u8, words::inputs_of(stations, inputs));
+    let out = board::playing::play_out(start, turns);
+    let at = out.at;
+    if at < turns.len() {
+        return Verdict::UnwrittenLine { at: at as u16 };
+    }
+    let run = out.run;
+    let rows = run.rows;
+    told::put_rows(answer, stations, rows);
+    Verdict::Accepted
+}
+
+// n stations with their inputs, 8 bytes each, and an order of turns, a byte each; the answer takes 20 bytes a station.
+// Returns 0, or the refusal plus 100 times its place, and then the answer is untouched.
+#[no_mangle]
+pub extern "C" fn gang_run(n: u64, inputs: &[u8], turns: &[u8], answer: &mut [u8]) -> u32
+    ensures { λ r. ⌜ (r ≡ returned n (now (inputs .entry)) (now (turns .entry)) (now (answer .entry))) × (now (answer .exit) ≡ answered n (now (inputs .entry)) (now (turns .entry)) (now (answer .entry))) ⌝ }
+{
+    let verdict = tested(n, inputs.len(), turns, answer.len());
+    if is_accepted(verdict) {
+        return number_of(carried_out(n, inputs, turns, answer));
+    }
+    number_of(verdict)
+}

@@ -1,0 +1,48 @@
+// The refusals 1 to 5, in the table's order.
+ghost use mathlib.Core.Path.{_≡_};
+ghost use Rattle.run.specs.Call.{firstBad, tests};
+use super::verdict::Verdict;
+
+// The first turn that is 0 or above n, or the number of turns where there is none.
+fn first_bad(n: u64, turns: &[u8]) -> usize
+    ensures { λ r. ⌜ r ≡ firstBad n (now (turns .entry)) ⌝ }
+{
+    let mut t = 0;
+    while t < turns.len() {
+        let station = turns[t] as u64;
+        if station == 0 {
+            return t;
+        }
+        if n < station {
+            return t;
+        }
+        t += 1;
+    }
+    t
+}
+
+// Whether the call can be made: n stations, so many input bytes, the turns, and so many answer bytes.
+pub fn tested(n: u64, input_bytes: usize, turns: &[u8], answer_size: usize) -> Verdict
+    ensures { λ r. ⌜ r ≡ tests n «input_bytes» (now (turns .entry)) «answer_size» ⌝ }
+{
+    if n == 0 {
+        return Verdict::NoStations;
+    }
+    if 16 < n {
+        return Verdict::NoStations;
+    }
+    if input_bytes as u64 != 8 * n {
+        return Verdict::WrongInputs;
+    }
+    if 4096 < turns.len() {
+        return Verdict::TooManyTurns;
+    }
+    let bad = first_bad(n, turns);
+    if bad < turns.len() {
+        return Verdict::BadTurn { at: bad as u16 };
+    }
+    if (answer_size as u64) < 20 * n {
+        return Verdict::ShortAnswer;
+    }
+    Verdict::Accepted
+}
