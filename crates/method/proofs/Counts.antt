@@ -1,33 +1,29 @@
 -- The counts of a run: what a turn adds to them, and how large they get.
-use mathlib.Core.Path.{_≡_, refl, sym, ap, _∙_, subst}
-use mathlib.Core.Bool.{Bool, true, false, not, _&&_, and-true, true≢false, false≢true}
+use mathlib.Core.Path.{_≡_, refl, sym, ap, _∙_}
+use mathlib.Core.Bool.{cond, Bool, true, false, not, _&&_, and-true, true≢false}
 use mathlib.Core.List.{List}
-use mathlib.Core.Logic.{_≢_, _⊎_, inl, inr}
-use Prim.Native.Nat.{ℕ, zero, suc, _+_, _-_, _*_, _^_, _≤_, _<_, zero-le}
+use mathlib.Core.Logic.{_≢_}
+use Prim.Native.Nat.{ℕ, zero, suc, _+_, _*_, _^_, _≤_, _<_, zero-le}
 use native.Mathlib.Nat.{le-refl, le-of-lt, ne-of-lt, add-zero}
 use native.Mathlib.Decide.{ℕ-discrete, le-ind}
-use native.Mathlib.Numerals.{add-one}
 use native.Mathlib.Omega.{arith}
 use borrow.Author.Tests.{eq-eqb, ne-eqb}
 use lib.Dec.{eqb}
-use lib.ListN.{length, getD}
+use lib.ListN.{getD}
 use lib.Pow.{pow-pos}
 use Rattle.sets.proofs.Members.{below-power}
 use Rattle.method.specs.declared.State.{State}
-use Rattle.method.specs.declared.State.the-variants.{NotBegun, Uniting, Gathering, Settled}
 use Rattle.method.specs.declared.Row.{Row}
 use Rattle.method.specs.declared.Run.{Run}
-use Rattle.method.specs.declared.Did.{Did}
-use Rattle.method.specs.declared.Did.the-variants.{Operation, Idle, Unwritten, Nobody}
-use Rattle.method.specs.declared.Turned.{Turned}
+use Rattle.method.specs.declared.Did.the-variants.{Operation, Idle}
 use Rattle.method.specs.Board.{depth, freshOn, rowOf}
 use Rattle.method.specs.Turn.{turn, after}
 use Rattle.method.specs.Demand.{Fits, Station, one, timesNamed, isSettled, turnsUnsettled, isIdle, didOf, idleTurns, countsOf, sharpOperations}
 use Rattle.method.proofs.Brought.{History, brought-posted}
 use Rattle.method.proofs.Rows.{RowOk, begins, unites, gathers, settled}
-use Rattle.method.proofs.Parts.{Shape, fresh-row}
+use Rattle.method.proofs.Parts.{fresh-row}
 use Rattle.method.proofs.Turns.{RowAfter, worked, rested, turn-row, turn-row-other}
-use Rattle.method.proofs.Moments.{Sound, always-sound, never-unwritten, after-turn}
+use Rattle.method.proofs.Moments.{always-sound, never-unwritten, after-turn}
 
 one-most : (b : Bool) → one b ≤ 1
 one-most true = le-refl 1
@@ -71,6 +67,14 @@ module _ (l r n : ℕ) (inputs : List ℕ) (fits : Fits l r n inputs) (order : L
   row-named : (t i : ℕ) → Station n i → i ≡ names t → RowAfter (run t) i (turn (run t) (names t))
   row-named t i s q =
       rw (← q) (turn-row i (always-sound l r n inputs fits order t .shape) (fits .given) s (never-unwritten l r n inputs fits order t (always-sound l r n inputs fits order t) i))
+
+  pub turn-was : (t : ℕ) → Station n (names t) → didOf (freshOn l r n inputs) order t ≡ cond (isSettled (rowOf (run t) (names t) .state)) Idle Operation
+  unfolding didOf
+  turn-was t s = go (row-named t (names t) s refl)
+    where
+      go : RowAfter (run t) (names t) (turn (run t) (names t)) → turn (run t) (names t) .did ≡ cond (isSettled (rowOf (run t) (names t) .state)) Idle Operation
+      go (worked f d c) = rw (f, d)
+      go (rested f d q) = rw (f, d)
 
   -- a settled station's row stays
   settled-stays : (t i : ℕ) → Station n i → isSettled (rowOf (run t) i .state) ≡ true → rowOf (run (suc t)) i ≡ rowOf (run t) i
@@ -123,7 +127,7 @@ module _ (l r n : ℕ) (inputs : List ℕ) (fits : Fits l r n inputs) (order : L
       go : (w : Bool) → isSettled (rowOf (run t) i .state) ≡ w
           → (isSettled (rowOf (run t) i .state) ≡ false → turnsUnsettled (freshOn l r n inputs) order t i ≡ timesNamed order t i)
           → turnsUnsettled (freshOn l r n inputs) order t i + one (eqb (names t) i && not (isSettled (rowOf (run t) i .state)))
-            ≡ timesNamed order t i + one (eqb (names t) i)
+          ≡ timesNamed order t i + one (eqb (names t) i)
       go true w ih = absurd (true≢false (sym w ∙ ap (λ (x : Row). isSettled (x .state)) (sym (settled-stays t i s w)) ∙ q))
       go false w ih = rw (ih w, w, and-true)
 

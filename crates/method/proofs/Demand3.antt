@@ -1,24 +1,23 @@
 -- Demand 3, for every number of stations, every inputs, every order of turns, stopped at every moment: the board need only be large enough.
 -- The words are those of specs/Demand. `run t` is the run record after the first t turns.
-use mathlib.Core.Path.{_≡_, refl, sym, ap, _∙_, subst}
-use mathlib.Core.Bool.{Bool, true, false, false≢true}
+use mathlib.Core.Path.{_≡_, refl, _∙_}
+use mathlib.Core.Bool.{cond, true, false≢true}
 use mathlib.Core.List.{List}
-use mathlib.Core.Logic.{_≢_, _⊎_, inl, inr}
-use Prim.Native.Nat.{ℕ, zero, suc, _+_, _-_, _*_, _^_, _≤_, _<_}
+use mathlib.Core.Logic.{_⊎_, inl, inr}
+use Prim.Native.Nat.{ℕ, zero, suc, _+_, _-_, _^_, _≤_, _<_}
 use native.Mathlib.Nat.{le-trans}
 use native.Mathlib.Omega.{arith}
 use borrow.Author.Tests.{eqb-true, eq-eqb}
-use lib.ListN.{getD}
+use lib.ListN.{length, getD}
+use lib.Pow.{pow-mono}
 use Rattle.sets.specs.Mask.{bit, holds}
 use Rattle.sets.proofs.Members.{holds-digit}
 use Rattle.sets.proofs.Subset.{Inside, holds-inside}
 use Rattle.method.specs.declared.State.{State}
 use Rattle.method.specs.declared.State.the-variants.{NotBegun, Uniting, Gathering, Settled}
-use Rattle.method.specs.declared.Row.{Row}
 use Rattle.method.specs.declared.Run.{Run}
-use Rattle.method.specs.declared.Did.{Did}
-use Rattle.method.specs.declared.Did.the-variants.{Unwritten}
-use Rattle.method.specs.Board.{depth, freshOn, rowOf}
+use Rattle.method.specs.declared.Did.the-variants.{Operation, Idle, Unwritten}
+use Rattle.method.specs.Board.{levels, registers, depth, freshOn, rowOf}
 use Rattle.method.specs.Turn.{after}
 use Rattle.method.specs.Demand.{Fits, Station, SettledOn, inputOf, gathered, timesNamed, isSettled, turnsUnsettled, didOf, idleTurns, countsOf, mostOperations, sharpOperations}
 use Rattle.method.proofs.Depth.{depth-enough, depth-least}
@@ -41,6 +40,10 @@ agreed (settled b s g k) = record { brought = b; self = s; union = g }
 -- "N is the least number with 2^N at least n"
 pub depth-is-least : (n : ℕ) → (n ≤ 2 ^ depth n) × ((k : ℕ) → n ≤ 2 ^ k → depth n ≤ k)
 depth-is-least n = (depth-enough n, depth-least n)
+
+-- a board of 4 levels of 16 registers is large enough for 16 stations
+pub fits-board : (n : ℕ) (inputs : List ℕ) → n ≤ 16 → n ≤ length inputs → Fits levels registers n inputs
+fits-board n inputs h k = record { deep = depth-least n 4 h; wide = pow-mono (depth-least n 4 h); given = k }
 
 settled-on : (s : State) → isSettled s ≡ true → (S : ℕ) × (x : ℕ) × (s ≡ Settled S x)
 settled-on (NotBegun x) q = absurd (false≢true q)
@@ -106,16 +109,19 @@ module _ {l r n : ℕ} {inputs : List ℕ} (fits : Fits l r n inputs) (turns : L
       go (inl k) = k
       go (inr k) = absurd (omega (arith, members-named t i S x si p j (holds-inside j (k .0) (holds-itself u j T y sj q)) .1))
 
-  -- with T-13's number
-  pub settles-sharp : (t i : ℕ) → Station n i → sharpOperations n ≤ timesNamed turns t i → (S : ℕ) × (x : ℕ) × SettledOn (run t) i S x
-  settles-sharp t i st h = settled-on (rowOf (run t) i .state) (C.settles l r n inputs fits turns t i st h)
-
   -- 4 and 7. A station that is named so often has settled, whatever the others do; and no station makes more operations.
   pub settles : (t i : ℕ) → Station n i → mostOperations n ≤ timesNamed turns t i → (S : ℕ) × (x : ℕ) × SettledOn (run t) i S x
-  settles t i st h = settles-sharp t i st (le-trans (sharper n) h)
+  settles t i st h = settled-on (rowOf (run t) i .state) (C.settles l r n inputs fits turns t i st (le-trans (sharper n) h))
 
   pub operations-bounded : (t i : ℕ) → Station n i → rowOf (run t) i .count ≤ mostOperations n
   operations-bounded t i st = le-trans (C.count-most l r n inputs fits turns t i st) (sharper n)
+
+  -- The same with T-13's number.
+  pub settles-sharp : (t i : ℕ) → Station n i → sharpOperations n ≤ timesNamed turns t i → (S : ℕ) × (x : ℕ) × SettledOn (run t) i S x
+  settles-sharp t i st h = settled-on (rowOf (run t) i .state) (C.settles l r n inputs fits turns t i st h)
+
+  pub operations-sharp : (t i : ℕ) → Station n i → rowOf (run t) i .count ≤ sharpOperations n
+  operations-sharp = C.count-most l r n inputs fits turns
 
   -- 5. A settled station stays as it is.
   pub settled-stays : (t u i S x : ℕ) → Station n i → t ≤ u → SettledOn (run t) i S x → rowOf (run u) i ≡ rowOf (run t) i
@@ -127,6 +133,10 @@ module _ {l r n : ℕ} {inputs : List ℕ} (fits : Fits l r n inputs) (turns : L
 
   pub count-within : (t i : ℕ) → Station n i → rowOf (run t) i .count ≤ t
   count-within t i st = rw (count-is t i st) (C.count-turns l r n inputs fits turns t i)
+
+  -- A turn that names a station is idle if the station has settled, and makes an operation otherwise.
+  pub turn-was : (t : ℕ) → Station n (getD turns t 0) → didOf start turns t ≡ cond (isSettled (rowOf (run t) (getD turns t 0) .state)) Idle Operation
+  turn-was = C.turn-was l r n inputs fits turns
 
   -- Counts and idle turns add up to the turns.
   pub counts-add-up : (t : ℕ) → ((u : ℕ) → u < t → Station n (getD turns u 0)) → countsOf (run t) n + idleTurns start turns t ≡ t

@@ -1,22 +1,20 @@
 -- What holds of a station's row holds after each private move, at one moment.
-use mathlib.Core.Path.{_≡_, refl, sym, ap, _∙_, subst}
-use mathlib.Core.Bool.{Bool, true, false, cond, _||_, true≢false}
+use mathlib.Core.Path.{_≡_, refl, sym, ap, _∙_}
+use mathlib.Core.Bool.{Bool, true, false, cond, true≢false}
 use mathlib.Core.List.{List}
 use mathlib.Core.Logic.{_⊎_, inl, inr}
-use Prim.Native.Nat.{ℕ, zero, suc, _+_, _-_, _*_, _/_, _%_, _^_, _≤_, _<_, zero-le}
+use Prim.Native.Nat.{ℕ, zero, suc, _+_, _-_, _*_, _/_, _^_, _≤_, _<_, zero-le}
 use native.Mathlib.Nat.{le-refl, le-trans, div-one, div-eq-of-lt, lt-of-lt-of-le, eq-or-lt-of-le, le-of-suc-le-suc}
 use native.Mathlib.Numerals.{add-one}
 use native.Mathlib.Omega.{arith}
 use borrow.Author.Tests.{ltb-true, ltb-false, lt-ltb, eqb-true, eqb-false}
-use lib.Bits.{or-comm}
 use lib.Dec.{ltb, eqb, eqb·suc-zero}
 use lib.ListN.{getD}
 use lib.Pow.{pow-pos}
 use Rattle.sets.specs.Mask.{size, union, alone, bit, memberAfter}
-use Rattle.sets.specs.Arrays.{arrayLength}
 use Rattle.sets.proofs.Members.{Next, after-none, after-next}
 use Rattle.sets.proofs.Digits.{bit-alone}
-use Rattle.sets.proofs.Subset.{smaller-inside, member-inside, union-left, size-none, member-counts, counted}
+use Rattle.sets.proofs.Subset.{smaller-inside, member-inside, union-left, size-none, member-counts}
 use Rattle.sets.proofs.Blocks.{sibling, block-length, block-above}
 use Rattle.method.specs.declared.Reading.{Reading}
 use Rattle.method.specs.declared.Side.{Side}
@@ -24,12 +22,12 @@ use Rattle.method.specs.declared.Side.the-variants.{Own, Other}
 use Rattle.method.specs.declared.Round.{Round}
 use Rattle.method.specs.declared.Round.the-variants.{First, Unchanged, Changed}
 use Rattle.method.specs.declared.State.{State}
-use Rattle.method.specs.declared.State.the-variants.{NotBegun, Uniting, Gathering, Settled}
+use Rattle.method.specs.declared.State.the-variants.{Uniting}
 use Rattle.method.specs.Steps.{gatherAt, gather, reading, climb, writing, pending, wrote, found, again, roundOver, readOther, readOwn, changed, absorbOwn, absorbOther}
 use Rattle.method.specs.Demand.{gathered}
 use Rattle.method.proofs.Brought.{History, Lasting, Full, Stop, Stood, Brought, single, join, brought-size, brought-posted, brought-nothing, comparable, stop-earlier}
 use Rattle.method.proofs.Potential.{left, left-start, left-mono, left-own-found, left-own-written, left-other-found, left-other-written, left-own-empty, left-other-empty}
-use Rattle.method.proofs.Rows.{Read, Written, calm, Seen, own-open, other-open, own-calm, other-calm, rest, due, at, Pair, Spent, RowOk, begins, unites, gathers, settled}
+use Rattle.method.proofs.Rows.{Read, Written, calm, Seen, own-open, other-open, own-calm, other-calm, rest, due, at, Pair, Spent, RowOk, unites, gathers, settled}
 use Rattle.method.proofs.Gathering.{gathered-member, gathered-same}
 
 -- a round that has found something is not calm
@@ -129,6 +127,10 @@ module _ (N n : ℕ) (inputs : List ℕ) {m : History} (board : Lasting m) {P : 
   abbrev Ok : State → ℕ → Type 0
   Ok = RowOk N n inputs m P t e
 
+  -- what the union at level d + 1 has seen of its two arrays
+  abbrev Saw : ℕ → Reading → Reading → Side → Bool → Type 0
+  Saw d own other = Seen m t d (e / 2 ^ d) (sibling (e / 2 ^ d)) own other
+
   gather-on : {S j got c : ℕ} → Brought m P N 0 S → bit S e ≡ 1 → got ≡ gathered inputs S j → j ≤ n → c + 3 * N + 5 ≤ 6 * 2 ^ N + j → Ok (gather S j got) c
   unfolding gather
   gather-on {S} {j} {got} {c} b s g l k = go (memberAfter S j) refl
@@ -198,23 +200,26 @@ module _ (N n : ℕ) (inputs : List ℕ) {m : History} (board : Lasting m) {P : 
       where
         go : (v : Bool) → pending (suc d) own ≡ v → (w : Bool) → pending (suc d) other ≡ w
             → Ok (cond v (Uniting (suc d) own other Own Unchanged)
-              (cond w (Uniting (suc d) own other Other Unchanged) (climb N (suc d) (union (own .set) (other .set))))) c
+            (cond w (Uniting (suc d) own other Other Unchanged) (climb N (suc d) (union (own .set) (other .set))))) c
         go true p w q = unites pair (own-calm x y l f s) p k
         go false p true q = unites {round = Unchanged} pair (other-calm x y l record { full = f; stop = full-up (pair .ours) p u } s) q (less k)
         go false p false q = finish record { full = f; stop = full-up (pair .ours) p u } s (less (less k))
 
+    -- other has just been read, so it stands so now, and own is full as far as it was read
+    first-on : {c : ℕ} → Written own → Written other → Stop m t d (sibling (e / 2 ^ d)) (size (other .set)) → Spent d 2 (own .known) (other .known) c
+        → Ok (again N (suc d) own other) c
+    first-on x y s k = again-on x y (le-refl t) (written-full (pair .ours) x) record { full = written-full (pair .theirs) y; stop = s } k
+
     -- the round is over
-    over-on : {c : ℕ} (round : Round) → Seen m t d (e / 2 ^ d) (sibling (e / 2 ^ d)) own other Other (calm round) → Written other
+    over-on : {c : ℕ} (round : Round) → Saw d own other Other (calm round) → Written other
         → Stop m t d (sibling (e / 2 ^ d)) (size (other .set)) → Spent d (rest (calm round)) (own .known) (other .known) c
         → Ok (roundOver N (suc d) own other round) c
     unfolding roundOver
-    over-on First (other-open x) y s k =
-        again-on x y (le-refl t) (written-full (pair .ours) x) record { full = written-full (pair .theirs) y; stop = s } k
+    over-on First (other-open x) y s k = first-on x y s k
     over-on Unchanged (other-calm x y l f g) z s k = finish f g k
-    over-on Changed (other-open x) y s k =
-        again-on x y (le-refl t) (written-full (pair .ours) x) record { full = written-full (pair .theirs) y; stop = s } k
+    over-on Changed (other-open x) y s k = first-on x y s k
 
-    other-on : {c : ℕ} (round : Round) → Seen m t d (e / 2 ^ d) (sibling (e / 2 ^ d)) own other Other (calm round)
+    other-on : {c : ℕ} (round : Round) → Saw d own other Other (calm round)
         → Spent d (due Other (calm round)) (own .known) (other .known) c → Ok (readOther N (suc d) own other round) c
     unfolding readOther
     other-on {c} round s k = go (pending (suc d) other) refl
@@ -224,12 +229,12 @@ module _ (N n : ℕ) (inputs : List ℕ) {m : History} (board : Lasting m) {P : 
         go false q = over-on round s (over (pair .theirs) q) (full-up (pair .theirs) q t) (less k)
 
     -- own is read: at the moment of a calm round it stood as it is now
-    own-ended : {w : Bool} → Seen m t d (e / 2 ^ d) (sibling (e / 2 ^ d)) own other Own w → Written own → Stop m t d (e / 2 ^ d) (size (own .set))
-        → Seen m t d (e / 2 ^ d) (sibling (e / 2 ^ d)) own other Other w
+    own-ended : {w : Bool} → Saw d own other Own w → Written own → Stop m t d (e / 2 ^ d) (size (own .set))
+        → Saw d own other Other w
     own-ended (own-open x) y s = other-open y
     own-ended (own-calm x y l f g) z s = other-calm x y l record { full = f; stop = stop-earlier board l s } g
 
-    own-on : {c : ℕ} (round : Round) → Seen m t d (e / 2 ^ d) (sibling (e / 2 ^ d)) own other Own (calm round)
+    own-on : {c : ℕ} (round : Round) → Saw d own other Own (calm round)
         → Spent d (due Own (calm round)) (own .known) (other .known) c → Ok (readOwn N (suc d) own other round) c
     unfolding readOwn
     own-on {c} round s k = go (pending (suc d) own) refl
@@ -241,26 +246,26 @@ module _ (N n : ℕ) (inputs : List ℕ) {m : History} (board : Lasting m) {P : 
   -- ---- what an operation brought
 
   module _ {d : ℕ} {own other : Reading} (pair : Pair N m P t e d own other) where
-    other-written : {w : Bool} → Seen m t d (e / 2 ^ d) (sibling (e / 2 ^ d)) own other Own w → Written other
+    other-written : {w : Bool} → Saw d own other Own w → Written other
     other-written (own-open x) = x
     other-written (own-calm x y l f g) = y
 
-    own-written : {w : Bool} → Seen m t d (e / 2 ^ d) (sibling (e / 2 ^ d)) own other Other w → Written own
+    own-written : {w : Bool} → Saw d own other Other w → Written own
     own-written (other-open x) = x
     own-written (other-calm x y l f g) = x
 
     -- a round in which something is written is not calm
-    write-own : {w : Bool} {c : ℕ} → Seen m t d (e / 2 ^ d) (sibling (e / 2 ^ d)) own other Own w → own .known < size (own .set)
+    write-own : {w : Bool} {c : ℕ} → Saw d own other Own w → own .known < size (own .set)
         → Spent d (due Own w) (own .known) (other .known) c
-        → Seen m t d (e / 2 ^ d) (sibling (e / 2 ^ d)) (wrote own) other Own w × Spent d (due Own w) (own .known + 1) (other .known) (suc c)
+        → Saw d (wrote own) other Own w × Spent d (due Own w) (own .known + 1) (other .known) (suc c)
     write-own (own-open x) h k =
         let l : own .known < 2 ^ d = omega (arith, brought-size (pair .ours .brought)) in
         (own-open x, rw add-one (spend (left-own-written (2 ^ d) (own .known) (other .known) l) k))
     write-own (own-calm x y l f g) h k = absurd (omega (arith, x .all))
 
-    write-other : {w : Bool} {c : ℕ} → Seen m t d (e / 2 ^ d) (sibling (e / 2 ^ d)) own other Other w → other .known < size (other .set)
+    write-other : {w : Bool} {c : ℕ} → Saw d own other Other w → other .known < size (other .set)
         → Spent d (due Other w) (own .known) (other .known) c
-        → Seen m t d (e / 2 ^ d) (sibling (e / 2 ^ d)) own (wrote other) Other w × Spent d (due Other w) (own .known) (other .known + 1) (suc c)
+        → Saw d own (wrote other) Other w × Spent d (due Other w) (own .known) (other .known + 1) (suc c)
     write-other (other-open x) h k =
         let l : other .known < 2 ^ d = omega (arith, brought-size (pair .theirs .brought)) in
         (other-open x, rw add-one (spend (left-other-written (2 ^ d) (own .known) (other .known) l) k))
@@ -287,14 +292,14 @@ module _ (N n : ℕ) (inputs : List ℕ) {m : History} (board : Lasting m) {P : 
         rw (reopened round, add-one, ← (w .all)) (spend (le-trans x y) k)
 
     module _ (holds : BoardOk m P t) {c : ℕ} (round : Round) (v : ℕ) where
-      pub absorb-own : Seen m t d (e / 2 ^ d) (sibling (e / 2 ^ d)) own other Own (calm round) → pending (suc d) own ≡ true
+      pub absorb-own : Saw d own other Own (calm round) → pending (suc d) own ≡ true
           → Spent d (due Own (calm round)) (own .known) (other .known) c → Answer m t d (e / 2 ^ d) own v → Ok (absorbOwn N (suc d) own other round v) (suc c)
       unfolding absorbOwn writing
       absorb-own s p k a = go (writing own) refl (eqb v 0) refl
         where
           go : (w : Bool) → writing own ≡ w → (z : Bool) → eqb v 0 ≡ z
               → Ok (cond w (readOwn N (suc d) (wrote own) other round)
-                (cond z (readOther N (suc d) own other round) (readOwn N (suc d) (found own v) other (changed round)))) (suc c)
+              (cond z (readOther N (suc d) own other round) (readOwn N (suc d) (found own v) other (changed round)))) (suc c)
           go true w z q =
               let x = write-own s (ltb-true (own .known) (size (own .set)) w) k in
               own-on record { within = pair .within; ours = wrote-read (pair .ours) v a w; theirs = pair .theirs; self = pair .self } round (x .0) (x .1)
@@ -314,7 +319,7 @@ module _ (N n : ℕ) (inputs : List ℕ) {m : History} (board : Lasting m) {P : 
                 self = member-inside e (smaller-inside (comparable board (pair .ours .brought) (r .brought)) larger) (pair .self);
               } (changed round) (rw (reopened round) (own-open (other-written s))) (find-own round (written (pair .ours) w) h k)
 
-      pub absorb-other : Seen m t d (e / 2 ^ d) (sibling (e / 2 ^ d)) own other Other (calm round) → pending (suc d) other ≡ true
+      pub absorb-other : Saw d own other Other (calm round) → pending (suc d) other ≡ true
           → Spent d (due Other (calm round)) (own .known) (other .known) c → Answer m t d (sibling (e / 2 ^ d)) other v
           → Ok (absorbOther N (suc d) own other round v) (suc c)
       unfolding absorbOther writing
@@ -322,7 +327,7 @@ module _ (N n : ℕ) (inputs : List ℕ) {m : History} (board : Lasting m) {P : 
         where
           go : (w : Bool) → writing other ≡ w → (z : Bool) → eqb v 0 ≡ z
               → Ok (cond w (readOther N (suc d) own (wrote other) round)
-                (cond z (roundOver N (suc d) own other round) (readOther N (suc d) own (found other v) (changed round)))) (suc c)
+              (cond z (roundOver N (suc d) own other round) (readOther N (suc d) own (found other v) (changed round)))) (suc c)
           go true w z q =
               let x = write-other s (ltb-true (other .known) (size (other .set)) w) k in
               other-on record { within = pair .within; ours = pair .ours; theirs = wrote-read (pair .theirs) v a w; self = pair .self } round (x .0) (x .1)

@@ -1,13 +1,11 @@
 -- A set by its digits: those of a union and of one member alone, and that the digits say which set it is.
-use mathlib.Core.Path.{_≡_, refl, sym, ap, ap₂, _∙_, subst}
-use mathlib.Core.Logic.{_⊎_, inl, inr}
-use Prim.Native.Nat.{ℕ, zero, suc, _+_, _-_, _*_, _/_, _%_, _^_, _≤_, _<_, max}
-use native.Mathlib.Nat.{mod-lt, zero-lt-suc, zero-div, one-mul, mul-add-mod-self-right, mod-eq-of-lt, div-eq-of-lt, div-add-mod'}
-use native.Mathlib.Decide.{decLt}
+use mathlib.Core.Path.{_≡_, refl, sym, ap, _∙_}
+use Prim.Native.Nat.{ℕ, zero, suc, _/_, _%_, _^_, _<_, max}
+use native.Mathlib.Nat.{mod-lt, zero-lt-suc, zero-div, one-mul, mul-add-mod-self-right, mod-eq-of-lt}
 use native.Mathlib.Omega.{arith}
 use lib.Arith.{bin-ind}
-use lib.Bits.{bitOr, or-shr, or-step, shifted-even}
-use lib.Pow.{shl-shr, pow-lt, pow-add}
+use lib.Bits.{bitOr, or-shr, or-step}
+use lib.Pow.{shl-shr}
 use Rattle.sets.specs.Mask.{union, bit}
 use Rattle.sets.proofs.Members.{digit-zero, digit-half}
 
