@@ -1,9 +1,9 @@
 -- The number of levels: the least N with 2 ^ N at least n.
 use mathlib.Core.Path.{_≡_, refl, ap}
 use mathlib.Core.Bool.{Bool, true, false}
-use Prim.Native.Nat.{ℕ, zero, suc, _+_, _^_, _≤_}
-use native.Mathlib.Nat.{le-of-lt, add-zero, add-suc, suc-add, zero-add}
-use native.Mathlib.Decide.{ℕ-discrete}
+use Prim.Native.Nat.{ℕ, zero, suc, _+_, _^_, _≤_, _<_}
+use native.Mathlib.Nat.{le-of-lt, le-antisymm, not-le-of-lt, add-zero, add-suc, suc-add, zero-add}
+use native.Mathlib.Decide.{ℕ-discrete, decLt}
 use native.Mathlib.Omega.{arith}
 use borrow.Author.Tests.{leb-true, leb-false}
 use lib.Dec.{leb}
@@ -40,3 +40,11 @@ depth-enough n = from-enough n 0 n (rw zero-add (le-of-lt (below-power n)))
 pub depth-least : (n k : ℕ) → n ≤ 2 ^ k → depth n ≤ k
 unfolding depth
 depth-least n k h = from-least n 0 n k h (omega arith)
+
+-- no other number is the least
+pub depth-is : (n N : ℕ) → n ≤ 2 ^ N → ((M : ℕ) → M < N → 2 ^ M < n) → N ≡ depth n
+depth-is n N h below = le-antisymm (go (decLt (depth n) N)) (depth-least n N h)
+  where
+    go : Dec (depth n < N) → N ≤ depth n
+    go (yes l) = absurd (not-le-of-lt (below (depth n) l) (depth-enough n))
+    go (no l) = omega arith

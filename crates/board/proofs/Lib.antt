@@ -1,0 +1,4 @@
+-- Laws for the proofs of this crate.
+mod Filled
+mod Holding
+mod Turns

@@ -1,0 +1,2 @@
+-- What the board's contracts say beyond the method's own definitions.
+pub mod Step

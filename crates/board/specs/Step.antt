@@ -1,0 +1,22 @@
+-- One turn on the run record.
+use Prim.Native.Nat.{ℕ, _≤_, _<_}
+use mathlib.Core.Bool.{cond}
+use lib.Dec.{ltb}
+use Rattle.method.specs.declared.Did.the-variants.{Nobody}
+use Rattle.method.specs.declared.Run.{Run}
+use Rattle.method.specs.declared.Turned.{Turned}
+use Rattle.method.specs.Board.{rowOf}
+use Rattle.method.specs.Turn.{turn, turned}
+
+-- a count is two bytes wide on the record; no turn is made for a station whose count is at its end
+abbrev pub countEnd : ℕ
+countEnd = 65535
+
+unfoldable pub stepOf : Run → ℕ → Turned
+stepOf run i = cond (ltb (rowOf run i .count) countEnd) (turn run i) (turned run Nobody)
+
+-- station i has a row on the record, and room in its count
+pub record Seated (run : Run) (i : ℕ) : Type 0 where
+  pub low : 1 ≤ i
+  pub high : i ≤ 16
+  pub room : rowOf run i .count < countEnd

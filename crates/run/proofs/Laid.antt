@@ -1,0 +1,86 @@
+-- The answer bytes laid into a buffer, row after row.
+use Prim.Native.Nat.{ℕ, zero, suc, _+_, _*_, _/_, _%_, _-_, _≤_, _<_}
+use mathlib.Core.Path.{_≡_, refl, sym, ap, _∙_}
+use mathlib.Core.List.{List, [], _∷_, _++_, append-assoc, append-nil}
+use native.Mathlib.Nat.{add-zero}
+use native.Mathlib.Numerals.{towards-suc}
+use native.Mathlib.Omega.{arith}
+use lib.ListN.{length, getD, take, drop, set, length-append, length-drop}
+use lib.Seq.{sets, sets-eq, length-sets, take-at, drop-append-add, drop-drop}
+use Rattle.method.specs.declared.State.{State}
+use Rattle.method.specs.declared.Row.{Row}
+use Rattle.run.specs.Bytes.{bytesOf}
+use Rattle.run.specs.Answer.{stateNumber, stationsShown, stocksShown, rowBytes, answerBytes}
+
+-- stores of two lists, one behind the other
+sets-append : (l : List ℕ) (i : ℕ) (xs ys : List ℕ) → sets l i (xs ++ ys) ≡ sets (sets l i xs) (i + length xs) ys
+sets-append l i [] ys = rw add-zero
+sets-append l i (x ∷ xs) ys =
+    let e : suc i + length xs ≡ i + suc (length xs) = omega arith in
+    rw (← e) (sets-append (set l i x) (suc i) xs ys)
+
+pub bytes-length : (w x : ℕ) → length (bytesOf w x) ≡ w
+unfolding bytesOf
+bytes-length zero x = refl
+bytes-length (suc w) x = ap suc (bytes-length w (x / 256))
+
+pub row-length : (r : Row) → length (rowBytes r) ≡ 20
+unfolding rowBytes bytesOf
+row-length r = refl
+
+-- eight stores are a word's bytes
+pub word-laid : (l : List ℕ) (at x : ℕ) →
+    set (set (set (set (set (set (set (set l at (x % 256)) (at + 1) (x / 256 % 256)) (at + 2) (x / 256 / 256 % 256)) (at + 3) (x / 256 / 256 / 256 % 256)) (at + 4) (x / 256 / 256 / 256 / 256 % 256)) (at + 5) (x / 256 / 256 / 256 / 256 / 256 % 256)) (at + 6) (x / 256 / 256 / 256 / 256 / 256 / 256 % 256)) (at + 7) (x / 256 / 256 / 256 / 256 / 256 / 256 / 256 % 256)
+    ≡ sets l at (bytesOf 8 x)
+unfolding bytesOf
+word-laid l at x = simp towards-suc
+
+-- four stores are a row's head, and the head and two words its bytes
+pub head-laid : (l : List ℕ) (at s c : ℕ) → set (set (set (set l at s) (at + 1) 0) (at + 2) (c % 256)) (at + 3) (c / 256 % 256) ≡ sets l at (s ∷ 0 ∷ bytesOf 2 c)
+unfolding bytesOf
+head-laid l at s c = simp towards-suc
+
+pub row-laid : (l h m last : List ℕ) (at : ℕ) (r : Row) (s S T : ℕ) → s ≡ stateNumber (r .state) → S ≡ stationsShown (r .state) → T ≡ stocksShown (r .state)
+    → h ≡ sets l at (s ∷ 0 ∷ bytesOf 2 (r .count)) → m ≡ sets h (at + 4) (bytesOf 8 S) → last ≡ sets m (at + 12) (bytesOf 8 T) → last ≡ sets l at (rowBytes r)
+unfolding rowBytes bytesOf
+row-laid l h m last at r s S T p q t e f g =
+    let front : List ℕ = stateNumber (r .state) ∷ 0 ∷ bytesOf 2 (r .count) in
+    let first : List ℕ = bytesOf 8 (stationsShown (r .state)) in
+    let second : List ℕ = bytesOf 8 (stocksShown (r .state)) in
+    rw (g, f, e, p, q, t) (sym (sets-append l at (front ++ first) second ∙ ap (λ (z : List ℕ). sets z (at + 12) second) (sets-append l at front first)))
+
+pub answer-more : (i : ℕ) (rows : List Row) (d : Row) → i < length rows → answerBytes (i + 1) rows ≡ answerBytes i rows ++ rowBytes (getD rows i d)
+unfolding answerBytes
+answer-more i [] d h = absurd (omega arith)
+answer-more zero (r ∷ rows) d h = append-nil (rowBytes r)
+answer-more (suc i) (r ∷ rows) d h =
+    let e : suc i + 1 ≡ suc (i + 1) = omega arith in
+    rw e (ap (λ (l : List ℕ). rowBytes r ++ l) (answer-more i rows d (omega arith)) ∙ sym (append-assoc (rowBytes r) (answerBytes i rows) (rowBytes (getD rows i d))))
+
+pub answer-length : (i : ℕ) (rows : List Row) → i ≤ length rows → length (answerBytes i rows) ≡ 20 * i
+unfolding answerBytes
+answer-length zero rows h = refl
+answer-length (suc i) [] h = absurd (omega arith)
+answer-length (suc i) (r ∷ rows) h =
+    let ih : length (answerBytes i rows) ≡ 20 * i = answer-length i rows (omega arith) in
+    length-append (rowBytes r) (answerBytes i rows) ∙ rw (row-length r, ih) (omega arith)
+
+-- one row more
+pub laid-more : (i : ℕ) (rows : List Row) (d : Row) (start : List ℕ) → i < length rows → 20 * (i + 1) ≤ length start
+    → sets (answerBytes i rows ++ drop (20 * i) start) (20 * i) (rowBytes (getD rows i d)) ≡ answerBytes (i + 1) rows ++ drop (20 * (i + 1)) start
+laid-more i rows d start h room =
+    let A = answerBytes i rows in
+    let D = drop (20 * i) start in
+    let R = rowBytes (getD rows i d) in
+    let long : length A ≡ 20 * i = answer-length i rows (omega arith) in
+    let row : length R ≡ 20 = row-length (getD rows i d) in
+    let next : 20 * i + length R ≡ 20 * (i + 1) = omega arith in
+    let fits : 20 * i + length R ≤ length (A ++ D) = simp (length-append, length-drop) (omega arith) in
+    let past : drop (20 * i + length R) (A ++ D) ≡ drop (20 * (i + 1)) start =
+    ap (λ (k : ℕ). drop (k + length R) (A ++ D)) (sym long) ∙ drop-append-add A D (length R) ∙ drop-drop (length R) (20 * i) start
+    ∙ ap (λ (k : ℕ). drop k start) next in
+    sets-eq R (A ++ D) (20 * i) fits ∙ rw (take-at A D (20 * i) long, past, answer-more i rows d h)
+
+pub laid-turn : (i n : ℕ) (rows : List Row) (d : Row) (start now last : List ℕ) → length rows ≡ 16 → i < n → n ≤ 16 → 20 * n ≤ length start
+    → now ≡ answerBytes i rows ++ drop (20 * i) start → last ≡ sets now (20 * i) (rowBytes (getD rows i d)) → last ≡ answerBytes (i + 1) rows ++ drop (20 * (i + 1)) start
+laid-turn i n rows d start now last l h m room e f = f ∙ rw e (laid-more i rows d start (omega arith) (omega arith))

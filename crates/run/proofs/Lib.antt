@@ -1,0 +1,3 @@
+-- Laws for the proofs of this crate.
+mod Little
+mod Laid

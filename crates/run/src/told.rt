@@ -1,0 +1,114 @@
+// What is told of a station's row, and its twenty answer bytes.
+ghost use mathlib.Core.Path.{_≡_};
+ghost use mathlib.Core.List.{_∷_, _++_};
+ghost use Prim.Native.Nat.{_+_, _*_, _≤_};
+ghost use lib.ListN.{length, drop};
+ghost use lib.Seq.{sets};
+ghost use Rattle.run.specs.Bytes.{bytesOf};
+ghost use Rattle.run.specs.Answer.{stateNumber, stationsShown, stocksShown, rowBytes, answerBytes};
+use super::words;
+use method::Row;
+use method::State;
+
+// 0 not begun, 1 under way, 2 settled.
+pub fn state_number(state: State) -> u8
+    ensures { λ r. ⌜ r ≡ stateNumber state ⌝ }
+{
+    match state {
+        State::NotBegun { stocks: _ } => 0,
+        State::Uniting {
+            level: _,
+            own: _,
+            other: _,
+            side: _,
+            round: _,
+        } => 1,
+        State::Gathering {
+            set: _,
+            station: _,
+            stocks: _,
+        } => 1,
+        State::Settled { set: _, stocks: _ } => 2,
+    }
+}
+
+// The settled stations, and none until then.
+pub fn stations_shown(state: State) -> u64
+    ensures { λ r. ⌜ r ≡ stationsShown state ⌝ }
+{
+    match state {
+        State::NotBegun { stocks: _ } => 0,
+        State::Uniting {
+            level: _,
+            own: _,
+            other: _,
+            side: _,
+            round: _,
+        } => 0,
+        State::Gathering {
+            set: _,
+            station: _,
+            stocks: _,
+        } => 0,
+        State::Settled { set, stocks: _ } => set,
+    }
+}
+
+// The settled stocks, and none until then.
+pub fn stocks_shown(state: State) -> u64
+    ensures { λ r. ⌜ r ≡ stocksShown state ⌝ }
+{
+    match state {
+        State::NotBegun { stocks: _ } => 0,
+        State::Uniting {
+            level: _,
+            own: _,
+            other: _,
+            side: _,
+            round: _,
+        } => 0,
+        State::Gathering {
+            set: _,
+            station: _,
+            stocks: _,
+        } => 0,
+        State::Settled { set: _, stocks } => stocks,
+    }
+}
+
+// Puts a state, a zero byte and a count from `at` on.
+fn put_head(dst: &mut [u8], at: usize, state: u8, count: u16)
+    requires { ⌜ at + 4 ≤ length (now dst) ⌝ }
+    ensures { λ r. ⌜ now (dst .exit) ≡ sets (now (dst .entry)) at (state ∷ 0 ∷ bytesOf 2 count) ⌝ }
+{
+    dst[at] = state;
+    dst[at + 1] = 0;
+    dst[at + 2] = (count % 256) as u8;
+    dst[at + 3] = (count / 256 % 256) as u8;
+}
+
+// Puts a row's twenty bytes from `at` on.
+fn put_row(dst: &mut [u8], at: usize, row: Row)
+    requires { ⌜ at + 20 ≤ length (now dst) ⌝ }
+    ensures { λ r. ⌜ now (dst .exit) ≡ sets (now (dst .entry)) at (rowBytes row) ⌝ }
+{
+    let state = row.state;
+    let number = state_number(state);
+    let stations = stations_shown(state);
+    let stocks = stocks_shown(state);
+    put_head(dst, at, number, row.count);
+    words::put_word(dst, at + 4, stations);
+    words::put_word(dst, at + 12, stocks);
+}
+
+// Puts the first n rows, one after the other.
+pub fn put_rows(dst: &mut [u8], n: usize, rows: [Row; 16])
+    requires { ⌜ (n ≤ 16) × (20 * n ≤ length (now dst)) ⌝ }
+    ensures { λ r. ⌜ now (dst .exit) ≡ answerBytes n rows ++ drop (20 * n) (now (dst .entry)) ⌝ }
+{
+    let mut i = 0;
+    while i < n {
+        put_row(dst, 20 * i, rows[i]);
+        i += 1;
+    }
+}

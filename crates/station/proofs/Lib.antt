@@ -1,0 +1,2 @@
+-- The ways out of each definition of a station's steps, one law for each.
+mod Ways

@@ -1,0 +1,75 @@
+// The private part of a station: its next operation, and its state after what the operation brought. It never touches the board.
+ghost use mathlib.Core.Path.{_≡_};
+ghost use mathlib.Core.Bool.{cond, _&&_};
+ghost use lib.Dec.{leb};
+ghost use Rattle.method.specs.Steps.{nextOp, absorb};
+
+// Reading an array from a set M.
+mod reading;
+
+// Gathering the stocks of the stations in S, and the way from one level to the next.
+mod climbing;
+
+// The union over two arrays.
+mod uniting;
+
+use method::Op;
+use method::Side;
+use method::State;
+
+// What station i does next.
+pub fn next_op(i: u8, state: State) -> Op
+    ensures { λ r. ⌜ r ≡ nextOp i state ⌝ }
+{
+    match state {
+        State::NotBegun { stocks } => Op::Post { stocks: stocks },
+        State::Uniting {
+            level,
+            own,
+            other,
+            side,
+            round: _,
+        } => match side {
+            Side::Own => reading::reach(level, sets::arrays::own_array(level, i), own),
+            Side::Other => reading::reach(level, sets::arrays::other_array(level, i), other),
+        },
+        State::Gathering {
+            set: _,
+            station,
+            stocks: _,
+        } => Op::ReadLine { station: station },
+        State::Settled { set: _, stocks: _ } => Op::Rest,
+    }
+}
+
+// Station i's state after its operation brought v, with all private work up to its next operation or its settled set. Of n levels.
+// A number that is not from 1 to 64 is no station, and its state stays.
+pub fn absorbed(n: u8, i: u8, state: State, v: u64) -> State
+    ensures { λ r. ⌜ r ≡ cond (leb 1 i && leb i 64) (absorb n i state v) state ⌝ }
+{
+    if i == 0 {
+        return state;
+    }
+    if 64 < i {
+        return state;
+    }
+    match state {
+        State::NotBegun { stocks: _ } => climbing::climbed(n, 0, sets::mask::alone(i)),
+        State::Uniting {
+            level,
+            own,
+            other,
+            side,
+            round,
+        } => match side {
+            Side::Own => uniting::absorbed_own(n, level, own, other, round, v),
+            Side::Other => uniting::absorbed_other(n, level, own, other, round, v),
+        },
+        State::Gathering {
+            set,
+            station,
+            stocks,
+        } => climbing::gathered(set, station, sets::mask::union_of(stocks, v)),
+        State::Settled { set: _, stocks: _ } => state,
+    }
+}
