@@ -9,4 +9,5 @@ pub mod Parts
 pub mod Turns
 pub mod Moments
 pub mod Counts
+pub mod Agreement
 pub mod Demand3
