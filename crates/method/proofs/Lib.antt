@@ -3,6 +3,7 @@ pub mod Depth
 pub mod Brought
 pub mod Potential
 pub mod Rows
+pub mod Readings
 pub mod Gathering
 pub mod Moves
 pub mod Parts

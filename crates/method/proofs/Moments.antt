@@ -29,7 +29,8 @@ use Rattle.method.proofs.Brought.{History, Lasting, Brought, brought-mo
 use Rattle.method.proofs.Depth.{depth-enough}
 use Rattle.method.proofs.Rows as R
 use Rattle.method.proofs.Rows.{RowOk, begins, unites, gathers, begun-input, row-later}
-use Rattle.method.proofs.Moves.{Answer, BoardOk, absorb-post, absorb-line, absorb-own, absorb-other}
+use Rattle.method.proofs.Readings.{Answer, BoardOk}
+use Rattle.method.proofs.Moves.{absorb-post, absorb-line, absorb-own, absorb-other}
 use Rattle.method.proofs.Parts.{Shape, fresh-shape, fresh-register, fresh-line, fresh-row, line-put, register-put, Put, kept, anew, register-cases, put-there}
 use Rattle.method.proofs.Turns.{Acts, posts, writes, reads, reads-line, Performs, acts, idles, misses, Turns, station, nobody, turns, acts-row, acts-shape, LineAfter, same, posted, acts-line, post-begins, Gathers, gathering, read-gathers, goes-register, goes-line, goes-row, goes-shape, goes-row-other, turn-stays, named-station}
 
@@ -43,11 +44,14 @@ pub record Posted (start : Run) (order : List ℕ) (n t e : ℕ) : Type 0 where
   pub line : lineOf (after start order t) (suc e) .written ≡ true
   pub named : 1 ≤ timesNamed order t (suc e)
 
+-- what holds at moment t
 pub record Sound (l r n : ℕ) (inputs : List ℕ) (start : Run) (order : List ℕ) (t : ℕ) : Type 0 where
   pub shape : Shape l r n (length inputs) (after start order t)
   pub registers : BoardOk (board start order) (Posted start order n t) t
   pub lines : (e : ℕ) → e < n → lineOf (after start order t) (suc e) .written ≡ true → lineOf (after start order t) (suc e) .stocks ≡ getD inputs e 0
-  pub rows : (e : ℕ) → e < n → RowOk (depth n) n inputs (board start order) (Posted start order n t) t e (rowOf (after start order t) (suc e) .state) (rowOf (after start order t) (suc e) .count)
+  pub rows : (e : ℕ) → e < n
+      → RowOk (depth n) n inputs (board start order) (Posted start order n t) t e (rowOf (after start order t) (suc e) .state)
+      (rowOf (after start order t) (suc e) .count)
 
 pub after-turn : (start : Run) (order : List ℕ) (t : ℕ) → after start order (suc t) ≡ turn (after start order t) (getD order t 0) .run
 unfolding after
@@ -149,14 +153,17 @@ module _ (l r n : ℕ) (inputs : List ℕ) (fits : Fits l r n inputs) (order : L
 
             there : (d' b' p' : ℕ) → p' < 2 ^ d' → 0 < m (suc t) d' b' p' → Put now (suc d) (suc b) (suc (x .known)) (x .set) (suc d') (suc b') (suc p')
                 → Brought m P d' b' (m (suc t) d' b' p') × (p' < size (m (suc t) d' b' p'))
-            there d' b' p' l' f (kept z) = let y : m (suc t) d' b' p' ≡ m t d' b' p' = put-reg (suc d') (suc b') (suc p') ∙ z in rw y (ok .holds d' b' p' l' (rw y at f))
+            there d' b' p' l' f (kept z) =
+                let y : m (suc t) d' b' p' ≡ m t d' b' p' = put-reg (suc d') (suc b') (suc p') ∙ z in
+                rw y (ok .holds d' b' p' l' (rw y at f))
             there d' b' p' l' f (anew z y u) =
                 let g : m (suc t) d' b' p' ≡ x .set = put-reg (suc d') (suc b') (suc p') ∙ z in
                 let s = put-there d b (x .known) d' b' p' short l' y u in
                 rw (g, s .0, s .1, s .2) (read .brought, less)
         go false w a =
             let y = read-it a reg in
-            (board-same (y .0) ok, record { filled = λ z. absurd (true≢false (sym z ∙ w)); shown = λ z. (rw add-one at (y .1)) ∙ sym (y .0 (suc d) (suc b) (suc (size (x .set)))) })
+            let z : v ≡ m (suc t) d b (size (x .set)) = (rw add-one at (y .1)) ∙ sym (y .0 (suc d) (suc b) (suc (size (x .set)))) in
+            (board-same (y .0) ok, record { filled = λ f. absurd (true≢false (sym f ∙ w)); shown = λ f. z })
 
     -- what was right stays right where lines that are written stay so
     module _ (keeps : (j : ℕ) → lineOf now (suc j) .written ≡ true → lineOf next (suc j) .written ≡ true) where
@@ -194,7 +201,8 @@ module _ (l r n : ℕ) (inputs : List ℕ) (fits : Fits l r n inputs) (order : L
         → Ok e s c → Acts now (suc e) (nextOp (suc e) s) v nx
         → BoardOk m P (suc t) × Ok e (absorb (depth n) (suc e) s v) (suc c)
     unfolding nextOp absorb registerOf levelOf withLine
-    effect {e = e} h names board reg lin begins posts = (board-same reg board, absorb-post (depth n) n inputs lasts few enough (suc t) e record { within = h; line = line; named = names })
+    effect {e = e} h names board reg lin begins posts =
+        (board-same reg board, absorb-post (depth n) n inputs lasts few enough (suc t) e record { within = h; line = line; named = names })
       where
         line : lineOf next (suc e) .written ≡ true
         line = rw (lin, line-put (sound .shape) (suc e) (written (getD inputs e 0)) (omega arith) (omega (arith, fits .given)))
@@ -202,7 +210,8 @@ module _ (l r n : ℕ) (inputs : List ℕ) (fits : Fits l r n inputs) (order : L
         let x = reached (own-block d e) (pair .ours) (pair .within) (block-in h (pair .within)) a reg board in
         (x .0, absorb-own (depth n) n inputs lasts few enough (suc t) e pair (x .0) round v seen pend spent (x .1))
     effect {e = e} {v = v} h names board reg lin (unites {d = d} {own = own} {side = Other} {round = round} pair seen pend spent) a =
-        let x = reached (other-block d e) (pair .theirs) (pair .within) (sibling-within (depth n) d (e / 2 ^ d) (pair .within) (block-in h (pair .within))) a reg board in
+        let b = sibling-within (depth n) d (e / 2 ^ d) (pair .within) (block-in h (pair .within)) in
+        let x = reached (other-block d e) (pair .theirs) (pair .within) b a reg board in
         (x .0, absorb-other (depth n) n inputs lasts few enough (suc t) e pair (x .0) round v seen pend spent (x .1))
     effect {e = e} h names board reg lin (gathers {j = j} b s k g c) (reads-line q) =
         (board-same reg board, absorb-line (depth n) n inputs lasts few enough (suc t) e j b s k g c (sound .lines j (few j (brought-posted b j k)) q))

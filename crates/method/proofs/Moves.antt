@@ -1,10 +1,9 @@
 -- What holds of a station's row holds after each private move, at one moment.
 use mathlib.Core.Path.{_≡_, refl, sym, ap, _∙_}
-use mathlib.Core.Bool.{Bool, true, false, cond, true≢false}
+use mathlib.Core.Bool.{Bool, true, false, cond}
 use mathlib.Core.List.{List}
-use mathlib.Core.Logic.{_⊎_, inl, inr}
 use Prim.Native.Nat.{ℕ, zero, suc, _+_, _-_, _*_, _/_, _^_, _≤_, _<_, zero-le}
-use native.Mathlib.Nat.{le-refl, le-trans, div-one, div-eq-of-lt, lt-of-lt-of-le, eq-or-lt-of-le, le-of-suc-le-suc}
+use native.Mathlib.Nat.{le-refl, le-trans, div-one, div-eq-of-lt, lt-of-lt-of-le, le-of-suc-le-suc}
 use native.Mathlib.Numerals.{add-one}
 use native.Mathlib.Omega.{arith}
 use borrow.Author.Tests.{ltb-true, ltb-false, lt-ltb, eqb-true, eqb-false}
@@ -15,7 +14,7 @@ use Rattle.sets.specs.Mask.{size, union, alone, bit, memberAfter}
 use Rattle.sets.proofs.Members.{Next, after-none, after-next}
 use Rattle.sets.proofs.Digits.{bit-alone}
 use Rattle.sets.proofs.Subset.{smaller-inside, member-inside, union-left, size-none, member-counts}
-use Rattle.sets.proofs.Blocks.{sibling, block-length, block-above}
+use Rattle.sets.proofs.Blocks.{sibling, block-above}
 use Rattle.method.specs.declared.Reading.{Reading}
 use Rattle.method.specs.declared.Side.{Side}
 use Rattle.method.specs.declared.Side.the-variants.{Own, Other}
@@ -27,7 +26,8 @@ use Rattle.method.specs.Steps.{gatherAt, gather, reading, climb, writing
 use Rattle.method.specs.Demand.{gathered}
 use Rattle.method.proofs.Brought.{History, Lasting, Full, Stop, Stood, Brought, single, join, brought-size, brought-posted, brought-nothing, comparable, stop-earlier}
 use Rattle.method.proofs.Potential.{left, left-start, left-mono, left-own-found, left-own-written, left-other-found, left-other-written, left-own-empty, left-other-empty}
-use Rattle.method.proofs.Rows.{Read, Written, calm, Seen, own-open, other-open, own-calm, other-calm, rest, due, at, Pair, Spent, RowOk, unites, gathers, settled}
+use Rattle.method.proofs.Rows.{Written, calm, Seen, own-open, other-open, own-calm, other-calm, rest, due, at, Pair, Spent, RowOk, unites, gathers, settled}
+use Rattle.method.proofs.Readings.{pending-read, written, written-full, over, full-up, Answer, BoardOk, wrote-read, stops, found-read}
 use Rattle.method.proofs.Gathering.{gathered-member, gathered-same}
 
 -- a round that has found something is not calm
@@ -51,77 +51,6 @@ spend h s = record { most = omega (arith, s .most) }
 
 less : {d e k j c : ℕ} → Spent d (suc e) k j c → Spent d e k j c
 less {d} {e} {k} {j} s = record { most = omega (arith, s .most, left-mono (2 ^ d) e (suc e) k j (omega arith)) }
-
--- a reading that has an operation left but nothing to write
-pending-read : (d : ℕ) (r : Reading) → pending (suc d) r ≡ true → writing r ≡ false → size (r .set) < 2 ^ d
-unfolding pending
-pending-read d r p w = ltb-true (size (r .set)) (2 ^ d) (rw (block-length, w) at p)
-
--- and one that has none left
-not-pending : (d : ℕ) (r : Reading) → pending (suc d) r ≡ false → (writing r ≡ false) × (2 ^ d ≤ size (r .set))
-unfolding pending
-not-pending d r p = go (writing r) refl
-  where
-    go : (w : Bool) → writing r ≡ w → (writing r ≡ false) × (2 ^ d ≤ size (r .set))
-    go true w = absurd (true≢false (rw w at p))
-    go false w = (w, ltb-false (size (r .set)) (2 ^ d) (rw (block-length, w) at p))
-
-module _ {m : History} {P : ℕ → Type 0} {t d b : ℕ} {r : Reading} (read : Read m P t d b r) where
-  written : writing r ≡ false → Written r
-  unfolding writing
-  written w = record { all = omega (arith, ltb-false (r .known) (size (r .set)) w, read .known) }
-
-  -- nothing is left to write: the array is full as far as the set reaches
-  written-full : Written r → Full m t d b (size (r .set))
-  written-full w = rw (w .all) at (read .full)
-
-  -- nothing is left to read: the array is full, and there is no register after it
-  over : pending (suc d) r ≡ false → Written r
-  over p = written (not-pending d r p .0)
-
-  full-up : pending (suc d) r ≡ false → (u : ℕ) → Stop m u d b (size (r .set))
-  full-up p u = let q = not-pending d r p in record { ends = λ h. absurd (omega arith) }
-
--- what the board answers at this moment: the register has been written, or what it holds
-pub record Answer (m : History) (t d b : ℕ) (r : Reading) (v : ℕ) : Type 0 where
-  pub filled : writing r ≡ true → 0 < m t d b (r .known)
-  pub shown : writing r ≡ false → v ≡ m t d b (size (r .set))
-
--- every register that is filled holds a set brought to its block, and the set is large enough for the register
-pub record BoardOk (m : History) (P : ℕ → Type 0) (t : ℕ) : Type 0 where
-  pub holds : (d b p : ℕ) → p < 2 ^ d → 0 < m t d b p → Brought m P d b (m t d b p) × (p < size (m t d b p))
-
-module _ {m : History} {P : ℕ → Type 0} {t d b : ℕ} {r : Reading} (read : Read m P t d b r) where
-  extend : {x : ℕ} → Full m t d b x → 0 < m t d b x → Full m t d b (x + 1)
-  extend {x} f h = record { filled = λ p l. go p (eq-or-lt-of-le l) }
-    where
-      go : (p : ℕ) → (suc p ≡ x + 1) ⊎ (suc p < x + 1) → 0 < m t d b p
-      go p (inl q) = let z : p ≡ x = omega arith in rw z h
-      go p (inr q) = f .filled p (omega arith)
-
-  wrote-read : (v : ℕ) → Answer m t d b r v → writing r ≡ true → Read m P t d b (wrote r)
-  unfolding writing
-  wrote-read v a w =
-      record { brought = read .brought; full = extend (read .full) (a .filled w); known = omega (arith, ltb-true (r .known) (size (r .set)) w) }
-
-  -- a register that holds nothing ends the reading
-  stops : (v : ℕ) → Answer m t d b r v → writing r ≡ false → v ≡ 0 → Stop m t d b (size (r .set))
-  stops v a w z = record { ends = λ h. sym (a .shown w) ∙ z }
-
-  -- one that holds T carries it on from T
-  module _ (board : BoardOk m P t) (v : ℕ) (a : Answer m t d b r v) (w : writing r ≡ false) (h : size (r .set) < 2 ^ d) (z : v ≡ 0 → ⊥) where
-    filled-there : 0 < m t d b (size (r .set))
-    filled-there = let q = a .shown w in omega arith
-
-    found-brought : Brought m P d b v
-    found-brought = rw (a .shown w) (board .holds d b (size (r .set)) h filled-there .0)
-
-    found-larger : size (r .set) < size v
-    found-larger = rw (a .shown w) (board .holds d b (size (r .set)) h filled-there .1)
-
-    found-read : Read m P t d b (found r v)
-    found-read =
-        record { brought = found-brought; full = extend (written-full read (written read w)) filled-there; known = omega (arith, found-larger) }
 
 module _ (N n : ℕ) (inputs : List ℕ) {m : History} (board : Lasting m) {P : ℕ → Type 0} (few : (x : ℕ) → P x → x < n) (small : n ≤ 2 ^ N) (t e : ℕ) where
   abbrev Ok : State → ℕ → Type 0

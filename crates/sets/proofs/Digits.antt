@@ -37,7 +37,9 @@ bit-alone-only (suc e) (suc d) h =
 
 -- sets whose digits agree are one
 pub same-digits : (a b : ℕ) → ((d : ℕ) → bit a d ≡ bit b d) → a ≡ b
-same-digits = bin-ind (λ (a : ℕ). (b : ℕ) → ((d : ℕ) → bit a d ≡ bit b d) → a ≡ b) (bin-ind (λ (b : ℕ). ((d : ℕ) → bit 0 d ≡ bit b d) → 0 ≡ b) (λ h. refl) empty) step
+same-digits =
+    bin-ind (λ (a : ℕ). (b : ℕ) → ((d : ℕ) → bit a d ≡ bit b d) → a ≡ b)
+    (bin-ind (λ (b : ℕ). ((d : ℕ) → bit 0 d ≡ bit b d) → 0 ≡ b) (λ h. refl) empty) step
   where
     halves : (a b : ℕ) → a / 2 ≡ b / 2 → bit a 0 ≡ bit b 0 → a ≡ b
     halves a b h l = let p : a % 2 ≡ b % 2 = sym (digit-zero a) ∙ l ∙ digit-zero b in omega arith
