@@ -2,3 +2,4 @@
 mod Filled
 mod Holding
 mod Turns
+pub mod Orders

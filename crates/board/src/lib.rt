@@ -8,3 +8,6 @@ mod memory;
 
 // One turn.
 pub mod turning;
+
+// An order of turns.
+pub mod playing;
