@@ -1,10 +1,9 @@
 -- What a level may bring to a block of stations, and that any two such sets are comparable. Levels, blocks, registers and stations are
 -- counted from 0 here: block b of level d holds the 2 ^ d stations from b * 2 ^ d on, and its array is array b + 1 of document 01's level d + 1.
-use mathlib.Core.Path.{_≡_, refl, sym, ap, _∙_, subst}
+use mathlib.Core.Path.{_≡_, refl, sym, subst}
 use mathlib.Core.Logic.{_⊎_, inl, inr, ⊎-swap}
-use Prim.Native.Nat.{ℕ, zero, suc, _+_, _-_, _*_, _/_, _%_, _^_, _≤_, _<_, zero-le, max}
-use native.Mathlib.Nat.{le-trans, le-refl, div-one, pow-suc, div-div-eq-div-mul}
-use native.Mathlib.Decide.{decLe, decLt, le-ind}
+use Prim.Native.Nat.{ℕ, zero, suc, _+_, _*_, _/_, _%_, _^_, _≤_, _<_}
+use native.Mathlib.Decide.{decLe, le-ind}
 use native.Mathlib.Omega.{arith}
 use lib.Bits.{or-comm}
 use Rattle.sets.specs.Mask.{size, union, bit}

@@ -1,31 +1,27 @@
 -- The counts of a run: what a turn adds to them, and how large they get.
-use mathlib.Core.Path.{_≡_, refl, sym, ap, _∙_, subst}
-use mathlib.Core.Bool.{Bool, true, false, not, _&&_, and-true, true≢false, false≢true}
+use mathlib.Core.Path.{_≡_, refl, sym, ap, _∙_}
+use mathlib.Core.Bool.{cond, Bool, true, false, not, _&&_, and-true, true≢false}
 use mathlib.Core.List.{List}
-use mathlib.Core.Logic.{_≢_, _⊎_, inl, inr}
-use Prim.Native.Nat.{ℕ, zero, suc, _+_, _-_, _*_, _^_, _≤_, _<_, zero-le}
+use mathlib.Core.Logic.{_≢_}
+use Prim.Native.Nat.{ℕ, zero, suc, _+_, _*_, _^_, _≤_, _<_, zero-le}
 use native.Mathlib.Nat.{le-refl, le-of-lt, ne-of-lt, add-zero}
 use native.Mathlib.Decide.{ℕ-discrete, le-ind}
-use native.Mathlib.Numerals.{add-one}
 use native.Mathlib.Omega.{arith}
 use borrow.Author.Tests.{eq-eqb, ne-eqb}
 use lib.Dec.{eqb}
-use lib.ListN.{length, getD}
+use lib.ListN.{getD}
 use lib.Pow.{pow-pos}
 use Rattle.sets.proofs.Members.{below-power}
 use Rattle.method.specs.declared.State.{State}
-use Rattle.method.specs.declared.State.the-variants.{NotBegun, Uniting, Gathering, Settled}
 use Rattle.method.specs.declared.Row.{Row}
 use Rattle.method.specs.declared.Run.{Run}
-use Rattle.method.specs.declared.Did.{Did}
-use Rattle.method.specs.declared.Did.the-variants.{Operation, Idle, Unwritten, Nobody}
-use Rattle.method.specs.declared.Turned.{Turned}
+use Rattle.method.specs.declared.Did.the-variants.{Operation, Idle}
 use Rattle.method.specs.Board.{depth, freshOn, rowOf}
 use Rattle.method.specs.Turn.{turn, after}
 use Rattle.method.specs.Demand.{Fits, Station, one, timesNamed, isSettled, turnsUnsettled, isIdle, didOf, idleTurns, countsOf, sharpOperations}
 use Rattle.method.proofs.Brought.{History, brought-posted}
 use Rattle.method.proofs.Rows.{RowOk, begins, unites, gathers, settled}
-use Rattle.method.proofs.Parts.{Shape, fresh-row}
+use Rattle.method.proofs.Parts.{fresh-row}
 use Rattle.method.proofs.Turns.{RowAfter, worked, rested, turn-row, turn-row-other}
 use Rattle.method.proofs.Moments.{Sound, always-sound, never-unwritten, after-turn}
 
@@ -58,19 +54,33 @@ unfolding sharpOperations
 within-sharp n c h = omega (arith, below-power (depth n))
 
 module _ (l r n : ℕ) (inputs : List ℕ) (fits : Fits l r n inputs) (order : List ℕ) where
+  abbrev start : Run
+  start = freshOn l r n inputs
+
   abbrev run : ℕ → Run
-  run t = after (freshOn l r n inputs) order t
+  run t = after start order t
+
+  sound : (t : ℕ) → Sound l r n inputs start order t
+  sound = always-sound l r n inputs fits order
 
   abbrev names : ℕ → ℕ
   names t = getD order t 0
 
   -- the row of a station that is not named, and of one that is
   row-other : (t i : ℕ) → 1 ≤ i → i ≢ names t → rowOf (run (suc t)) i ≡ rowOf (run t) i
-  row-other t i h f = rw after-turn (turn-row-other (names t) i (always-sound l r n inputs fits order t .shape) h f)
+  row-other t i h f = rw after-turn (turn-row-other (names t) i (sound t .shape) h f)
 
   row-named : (t i : ℕ) → Station n i → i ≡ names t → RowAfter (run t) i (turn (run t) (names t))
   row-named t i s q =
-      rw (← q) (turn-row i (always-sound l r n inputs fits order t .shape) (fits .given) s (never-unwritten l r n inputs fits order t (always-sound l r n inputs fits order t) i))
+      rw (← q) (turn-row i (sound t .shape) (fits .given) s (never-unwritten l r n inputs fits order t (sound t) i))
+
+  pub turn-was : (t : ℕ) → Station n (names t) → didOf start order t ≡ cond (isSettled (rowOf (run t) (names t) .state)) Idle Operation
+  unfolding didOf
+  turn-was t s = go (row-named t (names t) s refl)
+    where
+      go : RowAfter (run t) (names t) (turn (run t) (names t)) → turn (run t) (names t) .did ≡ cond (isSettled (rowOf (run t) (names t) .state)) Idle Operation
+      go (worked f d c) = rw (f, d)
+      go (rested f d q) = rw (f, d)
 
   -- a settled station's row stays
   settled-stays : (t i : ℕ) → Station n i → isSettled (rowOf (run t) i .state) ≡ true → rowOf (run (suc t)) i ≡ rowOf (run t) i
@@ -78,7 +88,7 @@ module _ (l r n : ℕ) (inputs : List ℕ) (fits : Fits l r n inputs) (order : L
     where
       done : RowAfter (run t) i (turn (run t) (names t)) → rowOf (run (suc t)) i ≡ rowOf (run t) i
       done (worked f d c) = absurd (true≢false (sym h ∙ f))
-      done (rested f d q) = ap (λ (x : Run). rowOf x i) (after-turn (freshOn l r n inputs) order t ∙ q)
+      done (rested f d q) = ap (λ (x : Run). rowOf x i) (after-turn start order t ∙ q)
 
       go : Dec (i ≡ names t) → rowOf (run (suc t)) i ≡ rowOf (run t) i
       go (yes q) = done (row-named t i s q)
@@ -88,17 +98,18 @@ module _ (l r n : ℕ) (inputs : List ℕ) (fits : Fits l r n inputs) (order : L
   settled-row t u i s l' h = le-ind (λ (x : ℕ). rowOf (run x) i ≡ rowOf (run t) i) refl (λ x k e. settled-stays x i s (rw e h) ∙ e) u l'
 
   -- a count is the number of turns that named the station while it had not settled
-  pub count-is : (t i : ℕ) → Station n i → rowOf (run t) i .count ≡ turnsUnsettled (freshOn l r n inputs) order t i
+  pub count-is : (t i : ℕ) → Station n i → rowOf (run t) i .count ≡ turnsUnsettled start order t i
   unfolding turnsUnsettled after
   count-is zero zero s = absurd (omega (arith, s .low))
   count-is zero (suc e) s = ap (λ (x : Row). x .count) (fresh-row l r n inputs e)
   count-is (suc t) i s = go (ℕ-discrete i (names t)) (count-is t i s)
     where
-      go : Dec (i ≡ names t) → rowOf (run t) i .count ≡ turnsUnsettled (freshOn l r n inputs) order t i
-          → rowOf (run (suc t)) i .count ≡ turnsUnsettled (freshOn l r n inputs) order t i + one (eqb (names t) i && not (isSettled (rowOf (run t) i .state)))
+      go : Dec (i ≡ names t) → rowOf (run t) i .count ≡ turnsUnsettled start order t i
+          → rowOf (run (suc t)) i .count ≡ turnsUnsettled start order t i + one (eqb (names t) i && not (isSettled (rowOf (run t) i .state)))
       go (yes q) ih = done (row-named t i s q)
         where
-          done : RowAfter (run t) i (turn (run t) (names t)) → rowOf (run (suc t)) i .count ≡ turnsUnsettled (freshOn l r n inputs) order t i + one (eqb (names t) i && not (isSettled (rowOf (run t) i .state)))
+          done : RowAfter (run t) i (turn (run t) (names t))
+              → rowOf (run (suc t)) i .count ≡ turnsUnsettled start order t i + one (eqb (names t) i && not (isSettled (rowOf (run t) i .state)))
           done (worked f d c) = rw (eq-eqb (names t) i (sym q), f, after-turn, c, ih)
           done (rested f d e) = rw (eq-eqb (names t) i (sym q), f, after-turn, e, ih, add-zero)
       go (no f) ih = rw (ne-eqb (names t) i (λ e. f (sym e)), row-other t i (s .low) f, ih, add-zero)
@@ -106,23 +117,23 @@ module _ (l r n : ℕ) (inputs : List ℕ) (fits : Fits l r n inputs) (order : L
   -- the bound
   pub count-most : (t i : ℕ) → Station n i → rowOf (run t) i .count ≤ sharpOperations n
   count-most t zero s = absurd (omega (arith, s .low))
-  count-most t (suc e) s = within-sharp n _ (never-more (λ j p. p .within) (s .high) (always-sound l r n inputs fits order t .rows e (s .high)))
+  count-most t (suc e) s = within-sharp n _ (never-more (λ j p. p .within) (s .high) (sound t .rows e (s .high)))
 
   count-unsettled : (t i : ℕ) → Station n i → isSettled (rowOf (run t) i .state) ≡ false → rowOf (run t) i .count < sharpOperations n
   count-unsettled t zero s q = absurd (omega (arith, s .low))
   count-unsettled t (suc e) s q =
-      let k = unsettled-less (λ j p. p .within) (s .high) (always-sound l r n inputs fits order t .rows e (s .high)) q in
+      let k = unsettled-less (λ j p. p .within) (s .high) (sound t .rows e (s .high)) q in
       within-sharp n (suc (rowOf (run t) (suc e) .count)) (omega arith)
 
   -- one that has not settled has counted every turn that named it
-  unsettled-named : (t i : ℕ) → Station n i → isSettled (rowOf (run t) i .state) ≡ false → turnsUnsettled (freshOn l r n inputs) order t i ≡ timesNamed order t i
+  unsettled-named : (t i : ℕ) → Station n i → isSettled (rowOf (run t) i .state) ≡ false → turnsUnsettled start order t i ≡ timesNamed order t i
   unfolding turnsUnsettled timesNamed
   unsettled-named zero i s q = refl
   unsettled-named (suc t) i s q = go (isSettled (rowOf (run t) i .state)) refl (unsettled-named t i s)
     where
       go : (w : Bool) → isSettled (rowOf (run t) i .state) ≡ w
-          → (isSettled (rowOf (run t) i .state) ≡ false → turnsUnsettled (freshOn l r n inputs) order t i ≡ timesNamed order t i)
-          → turnsUnsettled (freshOn l r n inputs) order t i + one (eqb (names t) i && not (isSettled (rowOf (run t) i .state)))
+          → (isSettled (rowOf (run t) i .state) ≡ false → turnsUnsettled start order t i ≡ timesNamed order t i)
+          → turnsUnsettled start order t i + one (eqb (names t) i && not (isSettled (rowOf (run t) i .state)))
           ≡ timesNamed order t i + one (eqb (names t) i)
       go true w ih = absurd (true≢false (sym w ∙ ap (λ (x : Row). isSettled (x .state)) (sym (settled-stays t i s w)) ∙ q))
       go false w ih = rw (ih w, w, and-true)
@@ -135,7 +146,7 @@ module _ (l r n : ℕ) (inputs : List ℕ) (fits : Fits l r n inputs) (order : L
       go false w = absurd (omega (arith, count-unsettled t i s w, count-is t i s, unsettled-named t i s w))
 
   -- ---- the turns that named i and were counted are no more than the turns
-  pub count-turns : (t i : ℕ) → turnsUnsettled (freshOn l r n inputs) order t i ≤ t
+  pub count-turns : (t i : ℕ) → turnsUnsettled start order t i ≤ t
   unfolding turnsUnsettled
   count-turns zero i = le-refl 0
   count-turns (suc t) i = omega (arith, count-turns t i, one-most (eqb (names t) i && not (isSettled (rowOf (run t) i .state))))
@@ -164,14 +175,15 @@ module _ (l r n : ℕ) (inputs : List ℕ) (fits : Fits l r n inputs) (order : L
         go (yes q) ih = let b = counts-below k (omega arith) in rw q (omega (arith, more))
         go (no f) ih = rw (row-other t (suc k) (omega arith) f) (omega (arith, ih (omega arith)))
 
-  pub counts-and-idle : (t : ℕ) → ((u : ℕ) → u < t → Station n (names u)) → countsOf (run t) n + idleTurns (freshOn l r n inputs) order t ≡ t
+  pub counts-and-idle : (t : ℕ) → ((u : ℕ) → u < t → Station n (names u)) → countsOf (run t) n + idleTurns start order t ≡ t
   unfolding idleTurns didOf
   counts-and-idle zero st = omega (arith, counts-first n)
   counts-and-idle (suc t) st = go (row-named t (names t) (st t (le-refl (suc t))) refl) (counts-and-idle t (λ u h. st u (omega arith)))
     where
-      go : RowAfter (run t) (names t) (turn (run t) (names t)) → countsOf (run t) n + idleTurns (freshOn l r n inputs) order t ≡ t
-          → countsOf (run (suc t)) n + (idleTurns (freshOn l r n inputs) order t + one (isIdle (turn (run t) (names t) .did))) ≡ suc t
+      go : RowAfter (run t) (names t) (turn (run t) (names t)) → countsOf (run t) n + idleTurns start order t ≡ t
+          → countsOf (run (suc t)) n + (idleTurns start order t + one (isIdle (turn (run t) (names t) .did))) ≡ suc t
       go (worked f d c) ih =
-          let x = counts-above t (ap (λ (y : Run). rowOf y (names t) .count) (after-turn (freshOn l r n inputs) order t) ∙ c) n (st t (le-refl (suc t)) .low) (st t (le-refl (suc t)) .high) in
+          let i = st t (le-refl (suc t)) in
+          let x = counts-above t (ap (λ (y : Run). rowOf y (names t) .count) (after-turn start order t) ∙ c) n (i .low) (i .high) in
           rw d (omega arith)
-      go (rested f d q) ih = rw (d, after-turn (freshOn l r n inputs) order t, q) (omega arith)
+      go (rested f d q) ih = rw (d, after-turn start order t, q) (omega arith)

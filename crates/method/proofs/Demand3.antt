@@ -1,52 +1,37 @@
 -- Demand 3, for every number of stations, every inputs, every order of turns, stopped at every moment: the board need only be large enough.
 -- The words are those of specs/Demand. `run t` is the run record after the first t turns.
-use mathlib.Core.Path.{_≡_, refl, sym, ap, _∙_, subst}
-use mathlib.Core.Bool.{Bool, true, false, false≢true}
+use mathlib.Core.Path.{_≡_, _∙_}
+use mathlib.Core.Bool.{cond, true}
 use mathlib.Core.List.{List}
-use mathlib.Core.Logic.{_≢_, _⊎_, inl, inr}
-use Prim.Native.Nat.{ℕ, zero, suc, _+_, _-_, _*_, _^_, _≤_, _<_}
+use mathlib.Core.Logic.{_⊎_, inl, inr}
+use Prim.Native.Nat.{ℕ, _+_, _-_, _^_, _≤_, _<_}
 use native.Mathlib.Nat.{le-trans}
 use native.Mathlib.Omega.{arith}
-use borrow.Author.Tests.{eqb-true, eq-eqb}
-use lib.ListN.{getD}
+use borrow.Author.Tests.{eq-eqb}
+use lib.ListN.{length, getD}
+use lib.Pow.{pow-mono}
 use Rattle.sets.specs.Mask.{bit, holds}
 use Rattle.sets.proofs.Members.{holds-digit}
 use Rattle.sets.proofs.Subset.{Inside, holds-inside}
-use Rattle.method.specs.declared.State.{State}
-use Rattle.method.specs.declared.State.the-variants.{NotBegun, Uniting, Gathering, Settled}
-use Rattle.method.specs.declared.Row.{Row}
 use Rattle.method.specs.declared.Run.{Run}
-use Rattle.method.specs.declared.Did.{Did}
-use Rattle.method.specs.declared.Did.the-variants.{Unwritten}
-use Rattle.method.specs.Board.{depth, freshOn, rowOf}
+use Rattle.method.specs.declared.Did.the-variants.{Operation, Idle, Unwritten}
+use Rattle.method.specs.Board.{levels, registers, depth, freshOn, rowOf}
 use Rattle.method.specs.Turn.{after}
 use Rattle.method.specs.Demand.{Fits, Station, SettledOn, inputOf, gathered, timesNamed, isSettled, turnsUnsettled, didOf, idleTurns, countsOf, mostOperations, sharpOperations}
 use Rattle.method.proofs.Depth.{depth-enough, depth-least}
-use Rattle.method.proofs.Brought.{History, Brought, brought-mono, brought-posted, comparable}
-use Rattle.method.proofs.Rows.{RowOk, settled}
-use Rattle.method.proofs.Gathering.{gathered-mono, gathered-holds}
+use Rattle.method.proofs.Gathering.{gathered-holds}
 use Rattle.method.proofs.Moments as M
-use Rattle.method.proofs.Moments.{Posted, lasting, always-sound}
+use Rattle.method.proofs.Moments.{always-sound}
 use Rattle.method.proofs.Counts as C
-
--- what is known of a row that has settled
-record Agreed (n : ℕ) (inputs : List ℕ) (m : History) (P : ℕ → Type 0) (e S stocks : ℕ) : Type 0 where
-  brought : Brought m P (depth n) 0 S
-  self : bit S e ≡ 1
-  union : stocks ≡ gathered inputs S n
-
-agreed : {n t e S x c : ℕ} {inputs : List ℕ} {m : History} {P : ℕ → Type 0} → RowOk (depth n) n inputs m P t e (Settled S x) c → Agreed n inputs m P e S x
-agreed (settled b s g k) = record { brought = b; self = s; union = g }
+use Rattle.method.proofs.Agreement.{settled-on, agrees, chain, member-named}
 
 -- "N is the least number with 2^N at least n"
 pub depth-is-least : (n : ℕ) → (n ≤ 2 ^ depth n) × ((k : ℕ) → n ≤ 2 ^ k → depth n ≤ k)
 depth-is-least n = (depth-enough n, depth-least n)
 
-settled-on : (s : State) → isSettled s ≡ true → (S : ℕ) × (x : ℕ) × (s ≡ Settled S x)
-settled-on (NotBegun x) q = absurd (false≢true q)
-settled-on (Uniting k own other side round) q = absurd (false≢true q)
-settled-on (Gathering S j got) q = absurd (false≢true q)
-settled-on (Settled S x) q = (S, x, refl)
+-- a board of 4 levels of 16 registers is large enough for 16 stations
+pub fits-board : (n : ℕ) (inputs : List ℕ) → n ≤ 16 → n ≤ length inputs → Fits levels registers n inputs
+fits-board n inputs h k = record { deep = depth-least n 4 h; wide = pow-mono (depth-least n 4 h); given = k }
 
 sharper : (n : ℕ) → sharpOperations n ≤ mostOperations n
 unfolding sharpOperations mostOperations
@@ -59,41 +44,25 @@ module _ {l r n : ℕ} {inputs : List ℕ} (fits : Fits l r n inputs) (turns : L
   abbrev run : ℕ → Run
   run t = after (freshOn l r n inputs) turns t
 
-  agrees : (t i S x : ℕ) → Station n i → SettledOn (run t) i S x → Agreed n inputs (M.board start turns) (Posted start turns n t) (i - 1) S x
-  agrees t zero S x st q = absurd (omega (arith, st .low))
-  agrees t (suc e) S x st q = let z : suc e - 1 ≡ e = omega arith in rw z (agreed (rw q at (always-sound l r n inputs fits turns t .rows e (st .high))))
-
   -- 1. Of two settled sets one holds the other, whenever they settled: the stations, and in the same way the stocks.
   pub nested : (t u i j S T x y : ℕ) → Station n i → Station n j → SettledOn (run t) i S x → SettledOn (run u) j T y
       → (Inside S T × Inside x y) ⊎ (Inside T S × Inside y x)
-  nested t u i j S T x y si sj p q =
-      let a = agrees t i S x si p in
-      let b = agrees u j T y sj q in
-      go a b (comparable (lasting l r n inputs turns) {P = λ z. Unit {0}} (brought-mono (λ z w. tt) (a .brought)) (brought-mono (λ z w. tt) (b .brought)))
-    where
-      go : Agreed n inputs (M.board start turns) (Posted start turns n t) (i - 1) S x → Agreed n inputs (M.board start turns) (Posted start turns n u) (j - 1) T y
-          → Inside S T ⊎ Inside T S → (Inside S T × Inside x y) ⊎ (Inside T S × Inside y x)
-      go a b (inl k) = inl (k, rw (a .union, b .union) (gathered-mono inputs S T n k))
-      go a b (inr k) = inr (k, rw (a .union, b .union) (gathered-mono inputs T S n k))
+  nested t u i j S T x y si sj p q = chain fits turns t u i j S T x y (agrees fits turns t i S x si p) (agrees fits turns u j T y sj q)
 
   -- 2. A settled set of stations holds its own station, and only stations that have been named by then.
   pub holds-itself : (t i S x : ℕ) → Station n i → SettledOn (run t) i S x → holds S i ≡ true
-  holds-itself t i S x st q = holds-digit S i (st .low) ∙ eq-eqb (bit S (i - 1)) 1 (agrees t i S x st q .self)
+  holds-itself t i S x st q = holds-digit S i (st .low) ∙ eq-eqb (bit S (i - 1)) 1 (agrees fits turns t i S x st q .self)
 
   pub members-named : (t i S x : ℕ) → Station n i → SettledOn (run t) i S x → (j : ℕ) → holds S j ≡ true → Station n j × (1 ≤ timesNamed turns t j)
-  unfolding holds
-  members-named t i S x st q zero k = absurd (false≢true k)
-  members-named t i S x st q (suc f) k =
-      let p = brought-posted (agrees t i S x st q .brought) f (eqb-true (bit S f) 1 k) in
-      (record { low = omega arith; high = p .within }, p .named)
+  members-named t i S x st q = member-named fits turns t i S x (agrees fits turns t i S x st q)
 
   -- The settled stocks are the union of the inputs of exactly the stations in its set, so its own input is among them.
   pub stocks-gathered : (t i S x : ℕ) → Station n i → SettledOn (run t) i S x → x ≡ gathered inputs S n
-  stocks-gathered t i S x st q = agrees t i S x st q .union
+  stocks-gathered t i S x st q = agrees fits turns t i S x st q .union
 
   pub holds-own-stocks : (t i S x : ℕ) → Station n i → SettledOn (run t) i S x → Inside (inputOf inputs i) x
   holds-own-stocks t i S x st q =
-      let a = agrees t i S x st q in
+      let a = agrees fits turns t i S x st q in
       let h : i - 1 < n = omega (arith, st .low, st .high) in
       rw (a .union) (gathered-holds inputs S n (i - 1) h (a .self))
 
@@ -106,16 +75,19 @@ module _ {l r n : ℕ} {inputs : List ℕ} (fits : Fits l r n inputs) (turns : L
       go (inl k) = k
       go (inr k) = absurd (omega (arith, members-named t i S x si p j (holds-inside j (k .0) (holds-itself u j T y sj q)) .1))
 
-  -- with T-13's number
-  pub settles-sharp : (t i : ℕ) → Station n i → sharpOperations n ≤ timesNamed turns t i → (S : ℕ) × (x : ℕ) × SettledOn (run t) i S x
-  settles-sharp t i st h = settled-on (rowOf (run t) i .state) (C.settles l r n inputs fits turns t i st h)
-
   -- 4 and 7. A station that is named so often has settled, whatever the others do; and no station makes more operations.
   pub settles : (t i : ℕ) → Station n i → mostOperations n ≤ timesNamed turns t i → (S : ℕ) × (x : ℕ) × SettledOn (run t) i S x
-  settles t i st h = settles-sharp t i st (le-trans (sharper n) h)
+  settles t i st h = settled-on (rowOf (run t) i .state) (C.settles l r n inputs fits turns t i st (le-trans (sharper n) h))
 
   pub operations-bounded : (t i : ℕ) → Station n i → rowOf (run t) i .count ≤ mostOperations n
   operations-bounded t i st = le-trans (C.count-most l r n inputs fits turns t i st) (sharper n)
+
+  -- The same with T-13's number.
+  pub settles-sharp : (t i : ℕ) → Station n i → sharpOperations n ≤ timesNamed turns t i → (S : ℕ) × (x : ℕ) × SettledOn (run t) i S x
+  settles-sharp t i st h = settled-on (rowOf (run t) i .state) (C.settles l r n inputs fits turns t i st h)
+
+  pub operations-sharp : (t i : ℕ) → Station n i → rowOf (run t) i .count ≤ sharpOperations n
+  operations-sharp = C.count-most l r n inputs fits turns
 
   -- 5. A settled station stays as it is.
   pub settled-stays : (t u i S x : ℕ) → Station n i → t ≤ u → SettledOn (run t) i S x → rowOf (run u) i ≡ rowOf (run t) i
@@ -127,6 +99,10 @@ module _ {l r n : ℕ} {inputs : List ℕ} (fits : Fits l r n inputs) (turns : L
 
   pub count-within : (t i : ℕ) → Station n i → rowOf (run t) i .count ≤ t
   count-within t i st = rw (count-is t i st) (C.count-turns l r n inputs fits turns t i)
+
+  -- A turn that names a station is idle if the station has settled, and makes an operation otherwise.
+  pub turn-was : (t : ℕ) → Station n (getD turns t 0) → didOf start turns t ≡ cond (isSettled (rowOf (run t) (getD turns t 0) .state)) Idle Operation
+  turn-was = C.turn-was l r n inputs fits turns
 
   -- Counts and idle turns add up to the turns.
   pub counts-add-up : (t : ℕ) → ((u : ℕ) → u < t → Station n (getD turns u 0)) → countsOf (run t) n + idleTurns start turns t ≡ t

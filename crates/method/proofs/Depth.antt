@@ -1,5 +1,5 @@
 -- The number of levels: the least N with 2 ^ N at least n.
-use mathlib.Core.Path.{_≡_, refl, sym, ap, _∙_}
+use mathlib.Core.Path.{_≡_, refl, ap}
 use mathlib.Core.Bool.{Bool, true, false}
 use Prim.Native.Nat.{ℕ, zero, suc, _+_, _^_, _≤_, _<_}
 use native.Mathlib.Nat.{le-of-lt, le-antisymm, not-le-of-lt, add-zero, add-suc, suc-add, zero-add}

@@ -1,35 +1,33 @@
 -- What holds of a station's row holds after each private move, at one moment.
-use mathlib.Core.Path.{_≡_, refl, sym, ap, _∙_, subst}
-use mathlib.Core.Bool.{Bool, true, false, cond, _||_, true≢false}
+use mathlib.Core.Path.{_≡_, refl, sym, ap, _∙_}
+use mathlib.Core.Bool.{Bool, true, false, cond}
 use mathlib.Core.List.{List}
-use mathlib.Core.Logic.{_⊎_, inl, inr}
-use Prim.Native.Nat.{ℕ, zero, suc, _+_, _-_, _*_, _/_, _%_, _^_, _≤_, _<_, zero-le}
-use native.Mathlib.Nat.{le-refl, le-trans, div-one, div-eq-of-lt, lt-of-lt-of-le, eq-or-lt-of-le, le-of-suc-le-suc}
+use Prim.Native.Nat.{ℕ, zero, suc, _+_, _-_, _*_, _/_, _^_, _≤_, _<_, zero-le}
+use native.Mathlib.Nat.{le-refl, le-trans, div-one, div-eq-of-lt, lt-of-lt-of-le, le-of-suc-le-suc}
 use native.Mathlib.Numerals.{add-one}
 use native.Mathlib.Omega.{arith}
 use borrow.Author.Tests.{ltb-true, ltb-false, lt-ltb, eqb-true, eqb-false}
-use lib.Bits.{or-comm}
 use lib.Dec.{ltb, eqb, eqb·suc-zero}
 use lib.ListN.{getD}
 use lib.Pow.{pow-pos}
 use Rattle.sets.specs.Mask.{size, union, alone, bit, memberAfter}
-use Rattle.sets.specs.Arrays.{arrayLength}
 use Rattle.sets.proofs.Members.{Next, after-none, after-next}
 use Rattle.sets.proofs.Digits.{bit-alone}
-use Rattle.sets.proofs.Subset.{smaller-inside, member-inside, union-left, size-none, member-counts, counted}
-use Rattle.sets.proofs.Blocks.{sibling, block-length, block-above}
+use Rattle.sets.proofs.Subset.{smaller-inside, member-inside, union-left, size-none, member-counts}
+use Rattle.sets.proofs.Blocks.{sibling, block-above}
 use Rattle.method.specs.declared.Reading.{Reading}
 use Rattle.method.specs.declared.Side.{Side}
 use Rattle.method.specs.declared.Side.the-variants.{Own, Other}
 use Rattle.method.specs.declared.Round.{Round}
 use Rattle.method.specs.declared.Round.the-variants.{First, Unchanged, Changed}
 use Rattle.method.specs.declared.State.{State}
-use Rattle.method.specs.declared.State.the-variants.{NotBegun, Uniting, Gathering, Settled}
+use Rattle.method.specs.declared.State.the-variants.{Uniting}
 use Rattle.method.specs.Steps.{gatherAt, gather, reading, climb, writing, pending, wrote, found, again, roundOver, readOther, readOwn, changed, absorbOwn, absorbOther}
 use Rattle.method.specs.Demand.{gathered}
 use Rattle.method.proofs.Brought.{History, Lasting, Full, Stop, Stood, Brought, single, join, brought-size, brought-posted, brought-nothing, comparable, stop-earlier}
 use Rattle.method.proofs.Potential.{left, left-start, left-mono, left-own-found, left-own-written, left-other-found, left-other-written, left-own-empty, left-other-empty}
-use Rattle.method.proofs.Rows.{Read, Written, calm, Seen, own-open, other-open, own-calm, other-calm, rest, due, at, Pair, Spent, RowOk, begins, unites, gathers, settled}
+use Rattle.method.proofs.Rows.{Written, calm, Seen, own-open, other-open, own-calm, other-calm, rest, due, at, Pair, Spent, RowOk, unites, gathers, settled}
+use Rattle.method.proofs.Readings.{pending-read, written, written-full, over, full-up, Answer, BoardOk, wrote-read, stops, found-read}
 use Rattle.method.proofs.Gathering.{gathered-member, gathered-same}
 
 -- a round that has found something is not calm
@@ -54,80 +52,13 @@ spend h s = record { most = omega (arith, s .most) }
 less : {d e k j c : ℕ} → Spent d (suc e) k j c → Spent d e k j c
 less {d} {e} {k} {j} s = record { most = omega (arith, s .most, left-mono (2 ^ d) e (suc e) k j (omega arith)) }
 
--- a reading that has an operation left but nothing to write
-pending-read : (d : ℕ) (r : Reading) → pending (suc d) r ≡ true → writing r ≡ false → size (r .set) < 2 ^ d
-unfolding pending
-pending-read d r p w = ltb-true (size (r .set)) (2 ^ d) (rw (block-length, w) at p)
-
--- and one that has none left
-not-pending : (d : ℕ) (r : Reading) → pending (suc d) r ≡ false → (writing r ≡ false) × (2 ^ d ≤ size (r .set))
-unfolding pending
-not-pending d r p = go (writing r) refl
-  where
-    go : (w : Bool) → writing r ≡ w → (writing r ≡ false) × (2 ^ d ≤ size (r .set))
-    go true w = absurd (true≢false (rw w at p))
-    go false w = (w, ltb-false (size (r .set)) (2 ^ d) (rw (block-length, w) at p))
-
-module _ {m : History} {P : ℕ → Type 0} {t d b : ℕ} {r : Reading} (read : Read m P t d b r) where
-  written : writing r ≡ false → Written r
-  unfolding writing
-  written w = record { all = omega (arith, ltb-false (r .known) (size (r .set)) w, read .known) }
-
-  -- nothing is left to write: the array is full as far as the set reaches
-  written-full : Written r → Full m t d b (size (r .set))
-  written-full w = rw (w .all) at (read .full)
-
-  -- nothing is left to read: the array is full, and there is no register after it
-  over : pending (suc d) r ≡ false → Written r
-  over p = written (not-pending d r p .0)
-
-  full-up : pending (suc d) r ≡ false → (u : ℕ) → Stop m u d b (size (r .set))
-  full-up p u = let q = not-pending d r p in record { ends = λ h. absurd (omega arith) }
-
--- what the board answers at this moment: the register has been written, or what it holds
-pub record Answer (m : History) (t d b : ℕ) (r : Reading) (v : ℕ) : Type 0 where
-  pub filled : writing r ≡ true → 0 < m t d b (r .known)
-  pub shown : writing r ≡ false → v ≡ m t d b (size (r .set))
-
--- every register that is filled holds a set brought to its block, and the set is large enough for the register
-pub record BoardOk (m : History) (P : ℕ → Type 0) (t : ℕ) : Type 0 where
-  pub holds : (d b p : ℕ) → p < 2 ^ d → 0 < m t d b p → Brought m P d b (m t d b p) × (p < size (m t d b p))
-
-module _ {m : History} {P : ℕ → Type 0} {t d b : ℕ} {r : Reading} (read : Read m P t d b r) where
-  extend : {x : ℕ} → Full m t d b x → 0 < m t d b x → Full m t d b (x + 1)
-  extend {x} f h = record { filled = λ p l. go p (eq-or-lt-of-le l) }
-    where
-      go : (p : ℕ) → (suc p ≡ x + 1) ⊎ (suc p < x + 1) → 0 < m t d b p
-      go p (inl q) = let z : p ≡ x = omega arith in rw z h
-      go p (inr q) = f .filled p (omega arith)
-
-  wrote-read : (v : ℕ) → Answer m t d b r v → writing r ≡ true → Read m P t d b (wrote r)
-  unfolding writing
-  wrote-read v a w =
-      record { brought = read .brought; full = extend (read .full) (a .filled w); known = omega (arith, ltb-true (r .known) (size (r .set)) w) }
-
-  -- a register that holds nothing ends the reading
-  stops : (v : ℕ) → Answer m t d b r v → writing r ≡ false → v ≡ 0 → Stop m t d b (size (r .set))
-  stops v a w z = record { ends = λ h. sym (a .shown w) ∙ z }
-
-  -- one that holds T carries it on from T
-  module _ (board : BoardOk m P t) (v : ℕ) (a : Answer m t d b r v) (w : writing r ≡ false) (h : size (r .set) < 2 ^ d) (z : v ≡ 0 → ⊥) where
-    filled-there : 0 < m t d b (size (r .set))
-    filled-there = let q = a .shown w in omega arith
-
-    found-brought : Brought m P d b v
-    found-brought = rw (a .shown w) (board .holds d b (size (r .set)) h filled-there .0)
-
-    found-larger : size (r .set) < size v
-    found-larger = rw (a .shown w) (board .holds d b (size (r .set)) h filled-there .1)
-
-    found-read : Read m P t d b (found r v)
-    found-read =
-        record { brought = found-brought; full = extend (written-full read (written read w)) filled-there; known = omega (arith, found-larger) }
-
 module _ (N n : ℕ) (inputs : List ℕ) {m : History} (board : Lasting m) {P : ℕ → Type 0} (few : (x : ℕ) → P x → x < n) (small : n ≤ 2 ^ N) (t e : ℕ) where
   abbrev Ok : State → ℕ → Type 0
   Ok = RowOk N n inputs m P t e
+
+  -- what the union at level d + 1 has seen of its two arrays
+  abbrev Saw : ℕ → Reading → Reading → Side → Bool → Type 0
+  Saw d own other = Seen m t d (e / 2 ^ d) (sibling (e / 2 ^ d)) own other
 
   gather-on : {S j got c : ℕ} → Brought m P N 0 S → bit S e ≡ 1 → got ≡ gathered inputs S j → j ≤ n → c + 3 * N + 5 ≤ 6 * 2 ^ N + j → Ok (gather S j got) c
   unfolding gather
@@ -203,18 +134,21 @@ module _ (N n : ℕ) (inputs : List ℕ) {m : History} (board : Lasting m) {P : 
         go false p true q = unites {round = Unchanged} pair (other-calm x y l record { full = f; stop = full-up (pair .ours) p u } s) q (less k)
         go false p false q = finish record { full = f; stop = full-up (pair .ours) p u } s (less (less k))
 
+    -- other has just been read, so it stands so now, and own is full as far as it was read
+    first-on : {c : ℕ} → Written own → Written other → Stop m t d (sibling (e / 2 ^ d)) (size (other .set)) → Spent d 2 (own .known) (other .known) c
+        → Ok (again N (suc d) own other) c
+    first-on x y s k = again-on x y (le-refl t) (written-full (pair .ours) x) record { full = written-full (pair .theirs) y; stop = s } k
+
     -- the round is over
-    over-on : {c : ℕ} (round : Round) → Seen m t d (e / 2 ^ d) (sibling (e / 2 ^ d)) own other Other (calm round) → Written other
+    over-on : {c : ℕ} (round : Round) → Saw d own other Other (calm round) → Written other
         → Stop m t d (sibling (e / 2 ^ d)) (size (other .set)) → Spent d (rest (calm round)) (own .known) (other .known) c
         → Ok (roundOver N (suc d) own other round) c
     unfolding roundOver
-    over-on First (other-open x) y s k =
-        again-on x y (le-refl t) (written-full (pair .ours) x) record { full = written-full (pair .theirs) y; stop = s } k
+    over-on First (other-open x) y s k = first-on x y s k
     over-on Unchanged (other-calm x y l f g) z s k = finish f g k
-    over-on Changed (other-open x) y s k =
-        again-on x y (le-refl t) (written-full (pair .ours) x) record { full = written-full (pair .theirs) y; stop = s } k
+    over-on Changed (other-open x) y s k = first-on x y s k
 
-    other-on : {c : ℕ} (round : Round) → Seen m t d (e / 2 ^ d) (sibling (e / 2 ^ d)) own other Other (calm round)
+    other-on : {c : ℕ} (round : Round) → Saw d own other Other (calm round)
         → Spent d (due Other (calm round)) (own .known) (other .known) c → Ok (readOther N (suc d) own other round) c
     unfolding readOther
     other-on {c} round s k = go (pending (suc d) other) refl
@@ -224,12 +158,12 @@ module _ (N n : ℕ) (inputs : List ℕ) {m : History} (board : Lasting m) {P : 
         go false q = over-on round s (over (pair .theirs) q) (full-up (pair .theirs) q t) (less k)
 
     -- own is read: at the moment of a calm round it stood as it is now
-    own-ended : {w : Bool} → Seen m t d (e / 2 ^ d) (sibling (e / 2 ^ d)) own other Own w → Written own → Stop m t d (e / 2 ^ d) (size (own .set))
-        → Seen m t d (e / 2 ^ d) (sibling (e / 2 ^ d)) own other Other w
+    own-ended : {w : Bool} → Saw d own other Own w → Written own → Stop m t d (e / 2 ^ d) (size (own .set))
+        → Saw d own other Other w
     own-ended (own-open x) y s = other-open y
     own-ended (own-calm x y l f g) z s = other-calm x y l record { full = f; stop = stop-earlier board l s } g
 
-    own-on : {c : ℕ} (round : Round) → Seen m t d (e / 2 ^ d) (sibling (e / 2 ^ d)) own other Own (calm round)
+    own-on : {c : ℕ} (round : Round) → Saw d own other Own (calm round)
         → Spent d (due Own (calm round)) (own .known) (other .known) c → Ok (readOwn N (suc d) own other round) c
     unfolding readOwn
     own-on {c} round s k = go (pending (suc d) own) refl
@@ -241,26 +175,26 @@ module _ (N n : ℕ) (inputs : List ℕ) {m : History} (board : Lasting m) {P : 
   -- ---- what an operation brought
 
   module _ {d : ℕ} {own other : Reading} (pair : Pair N m P t e d own other) where
-    other-written : {w : Bool} → Seen m t d (e / 2 ^ d) (sibling (e / 2 ^ d)) own other Own w → Written other
+    other-written : {w : Bool} → Saw d own other Own w → Written other
     other-written (own-open x) = x
     other-written (own-calm x y l f g) = y
 
-    own-written : {w : Bool} → Seen m t d (e / 2 ^ d) (sibling (e / 2 ^ d)) own other Other w → Written own
+    own-written : {w : Bool} → Saw d own other Other w → Written own
     own-written (other-open x) = x
     own-written (other-calm x y l f g) = x
 
     -- a round in which something is written is not calm
-    write-own : {w : Bool} {c : ℕ} → Seen m t d (e / 2 ^ d) (sibling (e / 2 ^ d)) own other Own w → own .known < size (own .set)
+    write-own : {w : Bool} {c : ℕ} → Saw d own other Own w → own .known < size (own .set)
         → Spent d (due Own w) (own .known) (other .known) c
-        → Seen m t d (e / 2 ^ d) (sibling (e / 2 ^ d)) (wrote own) other Own w × Spent d (due Own w) (own .known + 1) (other .known) (suc c)
+        → Saw d (wrote own) other Own w × Spent d (due Own w) (own .known + 1) (other .known) (suc c)
     write-own (own-open x) h k =
         let l : own .known < 2 ^ d = omega (arith, brought-size (pair .ours .brought)) in
         (own-open x, rw add-one (spend (left-own-written (2 ^ d) (own .known) (other .known) l) k))
     write-own (own-calm x y l f g) h k = absurd (omega (arith, x .all))
 
-    write-other : {w : Bool} {c : ℕ} → Seen m t d (e / 2 ^ d) (sibling (e / 2 ^ d)) own other Other w → other .known < size (other .set)
+    write-other : {w : Bool} {c : ℕ} → Saw d own other Other w → other .known < size (other .set)
         → Spent d (due Other w) (own .known) (other .known) c
-        → Seen m t d (e / 2 ^ d) (sibling (e / 2 ^ d)) own (wrote other) Other w × Spent d (due Other w) (own .known) (other .known + 1) (suc c)
+        → Saw d own (wrote other) Other w × Spent d (due Other w) (own .known) (other .known + 1) (suc c)
     write-other (other-open x) h k =
         let l : other .known < 2 ^ d = omega (arith, brought-size (pair .theirs .brought)) in
         (other-open x, rw add-one (spend (left-other-written (2 ^ d) (own .known) (other .known) l) k))
@@ -287,7 +221,7 @@ module _ (N n : ℕ) (inputs : List ℕ) {m : History} (board : Lasting m) {P : 
         rw (reopened round, add-one, ← (w .all)) (spend (le-trans x y) k)
 
     module _ (holds : BoardOk m P t) {c : ℕ} (round : Round) (v : ℕ) where
-      pub absorb-own : Seen m t d (e / 2 ^ d) (sibling (e / 2 ^ d)) own other Own (calm round) → pending (suc d) own ≡ true
+      pub absorb-own : Saw d own other Own (calm round) → pending (suc d) own ≡ true
           → Spent d (due Own (calm round)) (own .known) (other .known) c → Answer m t d (e / 2 ^ d) own v → Ok (absorbOwn N (suc d) own other round v) (suc c)
       unfolding absorbOwn writing
       absorb-own s p k a = go (writing own) refl (eqb v 0) refl
@@ -314,7 +248,7 @@ module _ (N n : ℕ) (inputs : List ℕ) {m : History} (board : Lasting m) {P : 
                 self = member-inside e (smaller-inside (comparable board (pair .ours .brought) (r .brought)) larger) (pair .self);
               } (changed round) (rw (reopened round) (own-open (other-written s))) (find-own round (written (pair .ours) w) h k)
 
-      pub absorb-other : Seen m t d (e / 2 ^ d) (sibling (e / 2 ^ d)) own other Other (calm round) → pending (suc d) other ≡ true
+      pub absorb-other : Saw d own other Other (calm round) → pending (suc d) other ≡ true
           → Spent d (due Other (calm round)) (own .known) (other .known) c → Answer m t d (sibling (e / 2 ^ d)) other v
           → Ok (absorbOther N (suc d) own other round v) (suc c)
       unfolding absorbOther writing

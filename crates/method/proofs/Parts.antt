@@ -1,23 +1,20 @@
 -- What the run record holds after one part of it was put anew. Nothing past this file looks into the record.
-use mathlib.Core.Path.{_≡_, refl, sym, ap, _∙_, subst}
-use mathlib.Core.Bool.{Bool, true, false}
-use mathlib.Core.List.{List, [], _∷_, map}
+use mathlib.Core.Path.{_≡_, refl, sym, ap, _∙_}
+use mathlib.Core.Bool.{false}
+use mathlib.Core.List.{List}
 use mathlib.Core.Logic.{_≢_, _⊎_, inl, inr}
-use Prim.Native.Nat.{ℕ, zero, suc, _+_, _-_, _*_, _/_, _%_, _^_, _≤_, _<_, zero-le}
-use native.Mathlib.Nat.{le-refl, le-trans, lt-of-lt-of-le}
+use Prim.Native.Nat.{ℕ, zero, suc, _+_, _-_, _*_, _^_, _≤_, _<_}
 use native.Mathlib.Decide.{ℕ-discrete, decLt}
 use native.Mathlib.Omega.{arith}
-use lib.ListN.{length, getD, set, replicate, length-set, length-map, length-replicate, getD-replicate, List·getD-eq-default, List·getD-map}
+use lib.ListN.{length, getD, set, replicate, length-set, length-map, length-replicate, getD-replicate, List·getD-map}
 use lib.Seq.{getD-set-same, getD-set-other, set-out}
 use Rattle.sets.specs.Arrays.{place}
 use Rattle.sets.proofs.Blocks.{place-of-block, same-place, block-within}
 use Rattle.method.specs.declared.Line.{Line}
 use Rattle.method.specs.declared.Level.{Level}
-use Rattle.method.specs.declared.State.{State}
-use Rattle.method.specs.declared.State.the-variants.{NotBegun}
 use Rattle.method.specs.declared.Row.{Row}
 use Rattle.method.specs.declared.Run.{Run}
-use Rattle.method.specs.Board.{depth, written, unwritten, emptyLevel, row, notBegun, freshOn, rowOf, lineOf, levelOf, registerOf, withRow, withLine, withRegister}
+use Rattle.method.specs.Board.{depth, written, unwritten, emptyLevel, notBegun, freshOn, rowOf, lineOf, levelOf, registerOf, withRow, withLine, withRegister}
 
 -- a run record for n stations, with l levels of r registers, and a line and a row for each of w inputs
 pub record Shape (l r n w : ℕ) (run : Run) : Type 0 where

@@ -1,7 +1,7 @@
 -- How many operations a union may still make. a and b are the registers of the own and of the other array that are not yet known to be
 -- filled; e is how many empty registers would still be read if nothing changed: 4 and 3 for own and other in a round that is the first or has
 -- changed, 2 and 1 in one that has not. An array that is known to be full is not read, which leaves e / 2 such reads of own, (e + 1) / 2 of other.
-use mathlib.Core.Path.{_≡_, refl, ap, ap₂, _∙_, sym}
+use mathlib.Core.Path.{_≡_, refl}
 use Prim.Native.Nat.{ℕ, zero, suc, _+_, _-_, _*_, _/_, _≤_, _<_, max}
 use native.Mathlib.Nat.{le-trans, sub-zero}
 use native.Mathlib.Omega.{arith}

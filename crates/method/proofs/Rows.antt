@@ -1,12 +1,12 @@
 -- What holds of a station's row at a moment t, where m is the board's history and Posted says which stations have posted by then. The station
 -- is e + 1, its own block at level d is e / 2 ^ d.
-use mathlib.Core.Path.{_≡_, refl, sym, ap, _∙_, subst}
+use mathlib.Core.Path.{_≡_, refl}
 use mathlib.Core.Bool.{Bool, true, false}
 use mathlib.Core.List.{List}
-use Prim.Native.Nat.{ℕ, zero, suc, _+_, _-_, _*_, _/_, _%_, _^_, _≤_, _<_}
-use native.Mathlib.Nat.{le-refl, le-trans}
+use Prim.Native.Nat.{ℕ, suc, _+_, _*_, _/_, _^_, _≤_, _<_}
+use native.Mathlib.Nat.{le-trans}
 use lib.ListN.{getD}
-use Rattle.sets.specs.Mask.{size, union, bit}
+use Rattle.sets.specs.Mask.{size, bit}
 use Rattle.sets.proofs.Blocks.{sibling}
 use Rattle.method.specs.declared.Reading.{Reading}
 use Rattle.method.specs.declared.Side.{Side}
@@ -17,7 +17,7 @@ use Rattle.method.specs.declared.State.{State}
 use Rattle.method.specs.declared.State.the-variants.{NotBegun, Uniting, Gathering, Settled}
 use Rattle.method.specs.Steps.{pending}
 use Rattle.method.specs.Demand.{gathered}
-use Rattle.method.proofs.Brought.{History, Lasting, Full, Stop, Stood, Brought, brought-mono, full-later}
+use Rattle.method.proofs.Brought.{History, Lasting, Full, Stood, Brought, brought-mono, full-later}
 use Rattle.method.proofs.Potential.{left}
 
 -- the reading of block b's array: its set was brought there, and the registers that it knows of are filled

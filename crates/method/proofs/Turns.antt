@@ -1,33 +1,29 @@
 -- What a turn does: the operation on the board with what it brings, then the row that goes on; or nothing.
 use mathlib.Core.Path.{_≡_, refl, sym, ap, _∙_, subst}
 use mathlib.Core.Bool.{Bool, true, false, cond, _&&_, true≢false, false≢true}
-use mathlib.Core.List.{List}
 use mathlib.Core.Logic.{_≢_}
-use Prim.Native.Nat.{ℕ, zero, suc, _+_, _-_, _≤_, _<_}
+use Prim.Native.Nat.{ℕ, _+_, _≤_, _<_}
 use native.Mathlib.Nat.{le-trans}
 use native.Mathlib.Decide.{ℕ-discrete}
 use native.Mathlib.Omega.{arith}
 use borrow.Author.Tests.{leb-true, le-leb, ltb-true}
 use lib.Dec.{leb}
-use lib.ListN.{length, getD}
+use lib.ListN.{length}
 use Rattle.sets.specs.Mask.{size}
 use Rattle.sets.proofs.Subset.{counted}
 use Rattle.method.specs.declared.Line.{Line}
 use Rattle.method.specs.declared.Reading.{Reading}
-use Rattle.method.specs.declared.Side.{Side}
 use Rattle.method.specs.declared.Side.the-variants.{Own, Other}
 use Rattle.method.specs.declared.State.{State}
 use Rattle.method.specs.declared.State.the-variants.{NotBegun, Uniting, Gathering, Settled}
-use Rattle.method.specs.declared.Row.{Row}
 use Rattle.method.specs.declared.Op.{Op}
 use Rattle.method.specs.declared.Op.the-variants.{Post, Write, Read, ReadLine, Rest}
 use Rattle.method.specs.declared.Run.{Run}
-use Rattle.method.specs.declared.Did.{Did}
 use Rattle.method.specs.declared.Did.the-variants.{Operation, Idle, Unwritten, Nobody}
 use Rattle.method.specs.declared.Turned.{Turned}
 use Rattle.method.specs.Board.{written, row, rowOf, lineOf, levelOf, registerOf, withRow, withLine, withRegister}
 use Rattle.method.specs.Steps.{writing, reachAt, reach, nextOp, absorb}
-use Rattle.method.specs.Turn.{turned, goesOn, readLine, perform, named, turn, after}
+use Rattle.method.specs.Turn.{turned, goesOn, readLine, perform, named, turn}
 use Rattle.method.specs.Demand.{Station, isSettled}
 use Rattle.method.proofs.Parts.{Shape, row-shape, line-shape, register-shape, row-put, row-kept, line-put, line-kept, Put, kept, anew, register-cases}
 
@@ -79,13 +75,6 @@ module _ {run : Run} {i : ℕ} where
   acts-row writes j = refl
   acts-row reads j = refl
   acts-row (reads-line q) j = refl
-
-  pub acts-depth : {op : Op} {v : ℕ} {next : Run} → Acts run i op v next → next .depth ≡ run .depth
-  unfolding withLine withRegister
-  acts-depth posts = refl
-  acts-depth writes = refl
-  acts-depth reads = refl
-  acts-depth (reads-line q) = refl
 
   pub acts-shape : {l r n w : ℕ} {op : Op} {v : ℕ} {next : Run} → Shape l r n w run → Acts run i op v next → Shape l r n w next
   acts-shape s posts = line-shape s i _

@@ -8,11 +8,9 @@ use lib.ListN.{length, getD}
 use Rattle.sets.specs.Mask.{union, holds}
 use Rattle.method.specs.declared.State.{State}
 use Rattle.method.specs.declared.State.the-variants.{NotBegun, Uniting, Gathering, Settled}
-use Rattle.method.specs.declared.Row.{Row}
 use Rattle.method.specs.declared.Run.{Run}
 use Rattle.method.specs.declared.Did.{Did}
 use Rattle.method.specs.declared.Did.the-variants.{Operation, Idle, Unwritten, Nobody}
-use Rattle.method.specs.declared.Turned.{Turned}
 use Rattle.method.specs.Board.{depth, rowOf}
 use Rattle.method.specs.Turn.{turn, after}
 

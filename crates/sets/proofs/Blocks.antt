@@ -1,9 +1,9 @@
 -- The arrays by blocks, all counted from 0: block b of level d holds the 2 ^ d stations from b * 2 ^ d on, and its array is array b + 1 of
 -- level d + 1. Two neighbours, b and `sibling b`, make up block b / 2 of the next level.
-use mathlib.Core.Path.{_≡_, refl, sym, ap, ap₂, _∙_, subst}
+use mathlib.Core.Path.{_≡_, refl, sym, ap, _∙_, subst}
 use mathlib.Core.Bool.{Bool, true, false}
-use Prim.Native.Nat.{ℕ, zero, suc, _+_, _-_, _*_, _/_, _%_, _^_, _≤_, _<_}
-use native.Mathlib.Nat.{add-div-right, div-div-eq-div-mul, pow-suc, mul-comm}
+use Prim.Native.Nat.{ℕ, suc, _+_, _-_, _*_, _/_, _%_, _^_, _≤_, _<_}
+use native.Mathlib.Nat.{add-div-right, div-div-eq-div-mul, pow-suc}
 use native.Mathlib.Omega.{arith}
 use borrow.Author.Tests.{eqb-true, eqb-false}
 use lib.Arith.{digits-div, digits-mod, digits-lt}

@@ -1,13 +1,11 @@
 -- A set by its digits: those of a union and of one member alone, and that the digits say which set it is.
-use mathlib.Core.Path.{_≡_, refl, sym, ap, ap₂, _∙_, subst}
-use mathlib.Core.Logic.{_⊎_, inl, inr}
-use Prim.Native.Nat.{ℕ, zero, suc, _+_, _-_, _*_, _/_, _%_, _^_, _≤_, _<_, max}
-use native.Mathlib.Nat.{mod-lt, zero-lt-suc, zero-div, one-mul, mul-add-mod-self-right, mod-eq-of-lt, div-eq-of-lt, div-add-mod'}
-use native.Mathlib.Decide.{decLt}
+use mathlib.Core.Path.{_≡_, refl, sym, ap, _∙_}
+use Prim.Native.Nat.{ℕ, zero, suc, _/_, _%_, _^_, _<_, max}
+use native.Mathlib.Nat.{mod-lt, zero-lt-suc, zero-div, one-mul, mul-add-mod-self-right, mod-eq-of-lt}
 use native.Mathlib.Omega.{arith}
 use lib.Arith.{bin-ind}
-use lib.Bits.{bitOr, or-shr, or-step, shifted-even}
-use lib.Pow.{shl-shr, pow-lt, pow-add}
+use lib.Bits.{bitOr, or-shr, or-step}
+use lib.Pow.{shl-shr}
 use Rattle.sets.specs.Mask.{union, bit}
 use Rattle.sets.proofs.Members.{digit-zero, digit-half}
 
@@ -39,7 +37,9 @@ bit-alone-only (suc e) (suc d) h =
 
 -- sets whose digits agree are one
 pub same-digits : (a b : ℕ) → ((d : ℕ) → bit a d ≡ bit b d) → a ≡ b
-same-digits = bin-ind (λ (a : ℕ). (b : ℕ) → ((d : ℕ) → bit a d ≡ bit b d) → a ≡ b) (bin-ind (λ (b : ℕ). ((d : ℕ) → bit 0 d ≡ bit b d) → 0 ≡ b) (λ h. refl) empty) step
+same-digits =
+    bin-ind (λ (a : ℕ). (b : ℕ) → ((d : ℕ) → bit a d ≡ bit b d) → a ≡ b)
+    (bin-ind (λ (b : ℕ). ((d : ℕ) → bit 0 d ≡ bit b d) → 0 ≡ b) (λ h. refl) empty) step
   where
     halves : (a b : ℕ) → a / 2 ≡ b / 2 → bit a 0 ≡ bit b 0 → a ≡ b
     halves a b h l = let p : a % 2 ≡ b % 2 = sym (digit-zero a) ∙ l ∙ digit-zero b in omega arith
