@@ -6,6 +6,9 @@ pub mod verdict;
 // Numbers as bytes.
 mod words;
 
+// A station's state, as it is shown.
+pub mod shown;
+
 // A row's answer bytes.
 mod told;
 
