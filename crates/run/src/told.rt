@@ -6,9 +6,11 @@ ghost use lib.ListN.{length, drop};
 ghost use lib.Seq.{sets};
 ghost use Rattle.run.specs.Bytes.{bytesOf};
 ghost use Rattle.run.specs.Answer.{rowBytes, answerBytes};
+use super::shown::state_number;
+use super::shown::stations_shown;
+use super::shown::stocks_shown;
 use super::words;
 use method::Row;
-use method::State;
 
 // Puts a state, a zero byte and a count from `at` on.
 fn put_head(dst: &mut [u8], at: usize, state: u8, count: u16)
