@@ -5,4 +5,6 @@ pub mod Number
 pub mod Code
 pub mod Refusal
 pub mod Plan
+pub mod Window
+pub mod Hand
 pub mod Worked

@@ -10,6 +10,8 @@ use Rattle.plan.specs.Limits.{mostBytes, mostStations, mostStocks, mostT
 use Rattle.plan.specs.Text.{linesOf, fieldsOf, all, fine, same}
 use Rattle.plan.specs.Number.{empty, numberTo}
 use Rattle.plan.specs.Code.{codeOf, stockOf}
+use Rattle.plan.specs.declared.Word.{Word}
+use Rattle.plan.specs.declared.Word.the-variants.{Has, Turn, Other}
 use Rattle.plan.specs.declared.Fault.{Fault}
 use Rattle.plan.specs.declared.Fault.the-variants.{LongText, NoGang, StrayByte, OtherWord, FewFields, NoStation, NoCode, MoreStocks, MoreTurns}
 
@@ -47,52 +49,66 @@ unfoldable pub code : List ℕ → Out (List ℕ)
 code f = cond (leb (length f) mostCode) (cond (empty (codeOf f)) (no NoCode) (taken (codeOf f))) (no NoCode)
 
 -- the codes so far, and the set of one station
-pub record Stocks : Type 0 where
+pub record Holding : Type 0 where
   pub codes : List (List ℕ)
-  pub holds : ℕ
+  pub set : ℕ
+
+abbrev pub holding : List (List ℕ) → ℕ → Holding
+holding cs s = record { codes = cs; set = s }
 
 -- the set with stock k: bit k for stock k
 abbrev pub withStock : ℕ → ℕ → ℕ
 withStock s k = bitOr s (2 ^ k)
 
--- "Stocks are numbered from 0 by first appearance"; 18: "a 65th stock"
-unfoldable pub addStock : Stocks → List ℕ → Out Stocks
-addStock s c =
-    let k = stockOf c (s .codes) in
-    cond (ltb k (length (s .codes)))
-    (taken (record { codes = s .codes; holds = withStock (s .holds) k }))
-    (cond (ltb k mostStocks)
-    (taken (record { codes = s .codes ++ (c ∷ []); holds = withStock (s .holds) k }))
-    (no MoreStocks))
+-- the code is stock k: "Stocks are numbered from 0 by first appearance"; 18: "a 65th stock"
+abbrev pub stockAt : ℕ → Holding → List ℕ → Out Holding
+stockAt k h c =
+    cond (ltb k (length (h .codes)))
+    (taken (holding (h .codes) (withStock (h .set) k)))
+    (cond (ltb k mostStocks) (taken (holding (h .codes ++ (c ∷ [])) (withStock (h .set) k))) (no MoreStocks))
 
-unfoldable pub takeCode : Stocks → List ℕ → Out Stocks
-takeCode s f = then (code f) (λ c. addStock s c)
+unfoldable pub addStock : Holding → List ℕ → Out Holding
+addStock h c = stockAt (stockOf c (h .codes)) h c
+
+unfoldable pub takeCode : Holding → List ℕ → Out Holding
+takeCode h f = then (code f) (λ c. addStock h c)
 
 -- ---- lines
 
--- what is held of a plan: n, the codes in order, the input set of each station, the turns
-pub record Held : Type 0 where
-  pub stations : ℕ
+-- the codes in order of first appearance, and the input set of each station
+pub record Stocked : Type 0 where
   pub codes : List (List ℕ)
   pub sets : List ℕ
+
+abbrev pub stocked : List (List ℕ) → List ℕ → Stocked
+stocked cs ss = record { codes = cs; sets = ss }
+
+-- `HAS`, a station, one or more codes: "added to that station's set; several lines add up". 15: "HAS with fewer than two further fields"
+unfoldable pub hasLine : ℕ → Stocked → List (List ℕ) → Out Stocked
+hasLine n s [] = no FewFields
+hasLine n s (i ∷ []) = no FewFields
+hasLine n s (f ∷ c ∷ cs) =
+    then (station n f) (λ i.
+    then (each takeCode (holding (s .codes) (getD (s .sets) (i - 1) 0)) (c ∷ cs)) (λ h.
+    taken (stocked (h .codes) (set (s .sets) (i - 1) (h .set)))))
+
+-- `TURN` and one or more stations. 15: "TURN with none"
+unfoldable pub turnLine : ℕ → List ℕ → List (List ℕ) → Out (List ℕ)
+turnLine n turns [] = no FewFields
+turnLine n turns (f ∷ fs) = each (takeTurn n) turns (f ∷ fs)
+
+-- what is held of a plan: n, the stocks, the turns
+pub record Held : Type 0 where
+  pub stations : ℕ
+  pub stocks : Stocked
   pub turns : List ℕ
+
+abbrev pub held : ℕ → Stocked → List ℕ → Held
+held n s ts = record { stations = n; stocks = s; turns = ts }
 
 -- "A station without HAS has the empty set."
 abbrev pub fresh : ℕ → Held
-fresh n = record { stations = n; codes = []; sets = replicate mostStations 0; turns = [] }
-
-abbrev pub withTurns : Held → List ℕ → Held
-withTurns h ts = record { stations = h .stations; codes = h .codes; sets = h .sets; turns = ts }
-
--- station i's set, "added to that station's set; several lines add up"
-abbrev pub stocksOf : Held → ℕ → Stocks
-stocksOf h i = record { codes = h .codes; holds = getD (h .sets) (i - 1) 0 }
-
-abbrev pub withStocks : Held → ℕ → Stocks → Held
-withStocks h i s = record { stations = h .stations; codes = s .codes; sets = set (h .sets) (i - 1) (s .holds); turns = h .turns }
-
-pub data Word : Type 0 where
-  has turn other : Word
+fresh n = held n (stocked [] (replicate mostStations 0)) []
 
 abbrev pub GANG : List ℕ
 GANG = 71 ∷ 65 ∷ 78 ∷ 71 ∷ []
@@ -104,25 +120,13 @@ abbrev pub TURN : List ℕ
 TURN = 84 ∷ 85 ∷ 82 ∷ 78 ∷ []
 
 unfoldable pub wordOf : List ℕ → Word
-wordOf w = cond (same w HAS) has (cond (same w TURN) turn other)
-
--- `HAS`, a station, one or more codes
-unfoldable pub hasLine : Held → List (List ℕ) → Out Held
-hasLine h [] = no FewFields
-hasLine h (s ∷ []) = no FewFields
-hasLine h (s ∷ c ∷ cs) =
-    then (station (h .stations) s) (λ i. then (each takeCode (stocksOf h i) (c ∷ cs)) (λ t. taken (withStocks h i t)))
-
--- `TURN` and one or more stations
-unfoldable pub turnLine : Held → List (List ℕ) → Out Held
-turnLine h [] = no FewFields
-turnLine h (s ∷ ss) = then (each (takeTurn (h .stations)) (h .turns) (s ∷ ss)) (λ ts. taken (withTurns h ts))
+wordOf w = cond (same w HAS) Has (cond (same w TURN) Turn Other)
 
 -- 14: "a later line has another first field, a second GANG or an empty line included"
 abbrev pub wordLine : Word → Held → List (List ℕ) → Out Held
-wordLine has h fs = hasLine h fs
-wordLine turn h fs = turnLine h fs
-wordLine other h fs = no OtherWord
+wordLine Has h fs = then (hasLine (h .stations) (h .stocks) fs) (λ s. taken (held (h .stations) s (h .turns)))
+wordLine Turn h fs = then (turnLine (h .stations) (h .turns) fs) (λ ts. taken (held (h .stations) (h .stocks) ts))
+wordLine Other h fs = no OtherWord
 
 abbrev pub laterFields : Held → List (List ℕ) → Out Held
 laterFields h [] = no OtherWord
@@ -132,19 +136,20 @@ laterFields h (w ∷ fs) = wordLine (wordOf w) h fs
 unfoldable pub laterLine : Held → List ℕ → Out Held
 laterLine h l = cond (all fine l) (laterFields h (fieldsOf l)) (no StrayByte)
 
-abbrev pub stationsIn : ℕ → Out Held
-stationsIn zero = no NoGang
-stationsIn (suc n) = taken (fresh (suc n))
+-- n, where the line is `GANG` and one number from 1 to 16; else 0
+unfoldable pub gangOf : List (List ℕ) → ℕ
+gangOf [] = 0
+gangOf (w ∷ []) = 0
+gangOf (w ∷ f ∷ []) = cond (same w GANG) (numberTo mostStations f) 0
+gangOf (w ∷ f ∷ g ∷ gs) = 0
 
 -- 12: "line 1 is not GANG and one number from 1 to 16"
-unfoldable pub gangFields : List (List ℕ) → Out Held
-gangFields [] = no NoGang
-gangFields (w ∷ []) = no NoGang
-gangFields (w ∷ f ∷ []) = cond (same w GANG) (stationsIn (numberTo mostStations f)) (no NoGang)
-gangFields (w ∷ f ∷ g ∷ gs) = no NoGang
+abbrev pub gangIn : ℕ → Out Held
+gangIn zero = no NoGang
+gangIn (suc n) = taken (fresh (suc n))
 
 unfoldable pub firstLine : List ℕ → Out Held
-firstLine l = cond (all fine l) (gangFields (fieldsOf l)) (no StrayByte)
+firstLine l = cond (all fine l) (gangIn (gangOf (fieldsOf l))) (no StrayByte)
 
 -- ---- the plan
 

@@ -10,7 +10,7 @@ use Rattle.plan.specs.Text.{parted, all, same}
 use Rattle.plan.specs.Number.{valueOn, numberTo}
 use Rattle.plan.specs.Code.{codeOf, stockOf}
 use Rattle.plan.specs.Refusal.{numberOf}
-use Rattle.plan.specs.Plan.{Held, Reading, plan, refused, each, station, takeTurn, takeCode, addStock, wordOf, hasLine, turnLine, laterLine, gangFields, firstLine, laterLines, reading}
+use Rattle.plan.specs.Plan.{Held, Reading, plan, refused, each, station, takeTurn, takeCode, addStock, wordOf, hasLine, turnLine, laterLine, gangOf, firstLine, laterLines, reading}
 use Rattle.plan.specs.Plan as Plan
 
 abbrev bytes : String → List ℕ
@@ -24,7 +24,7 @@ data Shown : Type 0 where
 
 shown : Reading → Shown
 unfolding numberOf
-shown (plan h) = taken (h .stations) (h .codes) (take 3 (h .sets)) (h .turns)
+shown (plan h) = taken (h .stations) (h .stocks .codes) (take 3 (h .stocks .sets)) (h .turns)
 shown (refused f k) = NO (numberOf f) k
 
 record Case : Type 0 where
@@ -62,5 +62,5 @@ cases =
     ∷ []
 
 cases-right : map (λ (c : Case). shown (reading (bytes (c .text)))) cases ≡ map (λ (c : Case). c .gives) cases
-unfolding cases shown parted all same valueOn numberTo codeOf stockOf numberOf each station takeTurn takeCode addStock Plan.code wordOf hasLine turnLine laterLine gangFields firstLine laterLines reading
+unfolding cases shown parted all same valueOn numberTo codeOf stockOf numberOf each station takeTurn takeCode addStock Plan.code wordOf hasLine turnLine laterLine gangOf firstLine laterLines reading
 cases-right = refl

@@ -34,3 +34,16 @@ pub enum Answer {
         place: usize,
     },
 }
+
+// The first field of a later line.
+enum Word {
+    Has,
+    Turn,
+    Other,
+}
+
+mod scan;
+
+mod number;
+
+mod code;
