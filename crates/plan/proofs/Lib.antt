@@ -1,4 +1,8 @@
 -- Laws that belong to no one function.
 pub mod Runs
+pub mod Pieces
+pub mod Windows
+pub mod Fields
+pub mod Turned
 pub mod Numbers
 pub mod Codes

@@ -42,8 +42,16 @@ enum Word {
     Other,
 }
 
+// What a line's word gives: how many there are now, or what it is refused for.
+enum Counted {
+    Count(usize),
+    Refused(Fault),
+}
+
 mod scan;
 
 mod number;
 
 mod code;
+
+mod turns;
