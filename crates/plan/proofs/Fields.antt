@@ -6,9 +6,9 @@ use mathlib.Core.List.{List, [], _∷_}
 use lib.ListN.{length, take, drop}
 use lib.Dec.{leb}
 use borrow.Author.Tests.{lt-leb}
-use Rattle.plan.specs.Text.{fieldsOf}
+use Rattle.plan.specs.Text.{fieldsOf, run}
 use Rattle.plan.specs.Plan.{Out, taken, no, then, each}
-use Rattle.plan.specs.Window.{part, run, noTab, fieldsFrom}
+use Rattle.plan.specs.Window.{part, noTab, fieldsFrom}
 use Rattle.plan.specs.declared.Fault.{Fault}
 use Rattle.plan.proofs.Windows.{fields-step}
 

@@ -4,5 +4,6 @@ pub mod Pieces
 pub mod Windows
 pub mod Fields
 pub mod Turned
+pub mod Listing
 pub mod Numbers
 pub mod Codes

@@ -8,8 +8,7 @@ use native.Mathlib.Nat.{not-suc-le-zero, le-of-suc-le-suc}
 use lib.ListN.{length, getD, take, drop}
 use lib.Dec.{eqb}
 use borrow.Author.Tests.{eq-eqb, ne-eqb}
-use Rattle.plan.specs.Text.{onto, joined, parted, all}
-use Rattle.plan.specs.Window.{run, runMore}
+use Rattle.plan.specs.Text.{onto, joined, parted, all, run, runMore}
 
 pub run-most : (f : ℕ → Bool) (l : List ℕ) → run f l ≤ length l
 unfolding run

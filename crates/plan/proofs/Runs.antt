@@ -1,4 +1,4 @@
--- A run of bytes from a place on, and two lists compared from a place on: a step, and where it stops.
+-- A run from a place on, and two lists compared from a place on: a step, and where it stops.
 use Prim.Native.Nat.{ℕ, zero, suc, _+_, _≤_, _<_}
 use mathlib.Core.Path.{_≡_, refl, sym, ap, _∙_}
 use mathlib.Core.Bool.{Bool, true, false, _&&_, and-false}
@@ -9,31 +9,30 @@ use lib.ListN.{length, getD, drop, drop-of-length-le}
 use lib.Seq.{drop-cons}
 use lib.Dec.{eqb}
 use borrow.Author.Tests.{eq-eqb, ne-eqb}
-use Rattle.plan.specs.Text.{same}
-use Rattle.plan.specs.Window.{run, runMore}
+use Rattle.plan.specs.Text.{same, run, runMore}
 
-module _ (f : ℕ → Bool) (l : List ℕ) (i : ℕ) where
-  -- the byte at i passes: the run goes on from the next place
-  pub run-on : i < length l → f (getD l i 0) ≡ true → i + run f (drop i l) ≡ i + 1 + run f (drop (i + 1) l)
+module _ {A : Type 0} (d : A) (f : A → Bool) (l : List A) (i : ℕ) where
+  -- the one at i passes: the run goes on from the next place
+  pub run-on : i < length l → f (getD l i d) ≡ true → i + run f (drop i l) ≡ i + 1 + run f (drop (i + 1) l)
   unfolding run
   run-on h t =
-      let e : drop i l ≡ getD l i 0 ∷ drop (i + 1) l = rw add-one (drop-cons l i 0 h) in
-      let s : i + run f (drop i l) ≡ i + runMore (f (getD l i 0)) (run f (drop (i + 1) l)) = ap (λ (x : List ℕ). i + run f x) e in
-      let u : runMore (f (getD l i 0)) (run f (drop (i + 1) l)) ≡ suc (run f (drop (i + 1) l)) = ap (λ (b : Bool). runMore b (run f (drop (i + 1) l))) t in
+      let e : drop i l ≡ getD l i d ∷ drop (i + 1) l = rw add-one (drop-cons l i d h) in
+      let s : i + run f (drop i l) ≡ i + runMore (f (getD l i d)) (run f (drop (i + 1) l)) = ap (λ (x : List A). i + run f x) e in
+      let u : runMore (f (getD l i d)) (run f (drop (i + 1) l)) ≡ suc (run f (drop (i + 1) l)) = ap (λ (b : Bool). runMore b (run f (drop (i + 1) l))) t in
       omega arith
 
   -- it does not: the run stops here
-  pub run-stops : i < length l → f (getD l i 0) ≡ false → i ≡ i + run f (drop i l)
+  pub run-stops : i < length l → f (getD l i d) ≡ false → i ≡ i + run f (drop i l)
   unfolding run
   run-stops h t =
-      let s : run f (drop i l) ≡ runMore (f (getD l i 0)) (run f (drop (suc i) l)) = ap (λ (x : List ℕ). run f x) (drop-cons l i 0 h) in
-      let u : runMore (f (getD l i 0)) (run f (drop (suc i) l)) ≡ 0 = ap (λ (b : Bool). runMore b (run f (drop (suc i) l))) t in
+      let s : run f (drop i l) ≡ runMore (f (getD l i d)) (run f (drop (suc i) l)) = ap (λ (x : List A). run f x) (drop-cons l i d h) in
+      let u : runMore (f (getD l i d)) (run f (drop (suc i) l)) ≡ 0 = ap (λ (b : Bool). runMore b (run f (drop (suc i) l))) t in
       omega arith
 
   pub run-ends : length l ≤ i → i ≡ i + run f (drop i l)
   unfolding run
   run-ends h =
-      let s : run f (drop i l) ≡ 0 = ap (λ (x : List ℕ). run f x) (drop-of-length-le l h) in
+      let s : run f (drop i l) ≡ 0 = ap (λ (x : List A). run f x) (drop-of-length-le l h) in
       omega arith
 
 -- lists of other lengths are not the same

@@ -5,15 +5,19 @@ use mathlib.Core.Bool.{Bool, true, false, cond}
 use mathlib.Core.List.{List, [], _∷_, _++_}
 use native.Mathlib.Omega.{arith}
 use native.Mathlib.Numerals.{add-one}
-use lib.ListN.{length, getD, take, set, length-set}
+use lib.ListN.{length, getD, take, drop, set, length-set}
 use lib.Seq.{take-suc-set, getD-set-other, length-take-le}
 use lib.Dec.{ltb}
 use borrow.Author.Tests.{lt-ltb, le-ltb}
+use Rattle.plan.specs.Text.{run}
 use Rattle.plan.specs.Limits.{mostTurns}
 use Rattle.plan.specs.Number.{numberTo}
-use Rattle.plan.specs.Plan.{Out, taken, no, then, stationIn, station, takeTurn}
+use Rattle.plan.specs.Plan.{Out, taken, no, then, each, stationIn, station, takeTurn, turnLine}
 use Rattle.plan.specs.Hand.{TurnsIn}
-use Rattle.plan.specs.declared.Fault.the-variants.{NoStation, MoreTurns}
+use Rattle.plan.specs.Window.{noTab, fieldsFrom}
+use Rattle.plan.proofs.Windows.{fields-step}
+use Rattle.plan.proofs.Fields.{fields-none}
+use Rattle.plan.specs.declared.Fault.the-variants.{FewFields, NoStation, MoreTurns}
 
 -- a station field, by its number
 pub station-none : (n : ℕ) (f : List ℕ) (s : ℕ) → s ≡ numberTo n f → s ≡ 0 → station n f ≡ no NoStation
@@ -60,3 +64,14 @@ turns-more k buf s h good =
     ; long = length-set buf k s ∙ good .long
     ; rest = λ j l. getD-set-other buf k j s 0 (λ e. omega arith) ∙ good .rest j (omega arith)
     }
+
+-- ---- the line
+
+module _ (n : ℕ) (turns text : List ℕ) (at end : ℕ) where
+  pub turn-line-none : end < at → turnLine n turns (fieldsFrom text at end) ≡ no FewFields
+  unfolding turnLine
+  turn-line-none h = ap (turnLine n turns) (fields-none text at end h)
+
+  pub turn-line-some : at ≤ end → end ≤ length text → turnLine n turns (fieldsFrom text at end) ≡ each (takeTurn n) turns (fieldsFrom text at end)
+  unfolding turnLine
+  turn-line-some h inside = rw (fields-step text at end (at + run noTab (drop at (take end text))) h inside refl)

@@ -11,8 +11,8 @@ use lib.ListN.{length, getD, take, drop, length-take, length-drop, drop-of-lengt
 use lib.Seq.{take-nil, take-take, take-all, drop-drop, drop-nil, drop-cons, getD-drop, getD-take, length-take-le}
 use lib.Dec.{leb, eqb}
 use borrow.Author.Tests.{eq-eqb, le-leb, lt-leb, eqb-true, not-false}
-use Rattle.plan.specs.Text.{LF, tab, onto, parted, linesOf, fieldsOf, all, fine}
-use Rattle.plan.specs.Window.{part, run, noTab, fieldsFrom}
+use Rattle.plan.specs.Text.{LF, tab, onto, parted, linesOf, fieldsOf, all, fine, run}
+use Rattle.plan.specs.Window.{part, noTab, fieldsFrom}
 use Rattle.plan.proofs.Pieces.{run-most, run-passes, run-fails, cut, whole, strays}
 
 pub drop-take : (i e : ℕ) (l : List ℕ) → drop i (take e l) ≡ part l i e

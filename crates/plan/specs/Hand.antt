@@ -5,7 +5,9 @@ use mathlib.Core.List.{List, [], _∷_, _++_}
 use lib.ListN.{length, getD, take}
 use Rattle.plan.specs.Limits.{mostStocks, mostTurns, mostCode}
 use Rattle.plan.specs.Window.{part}
-use Rattle.plan.specs.Plan.{Out, taken, no}
+use Rattle.plan.specs.Plan.{Out, taken, no, Holding, holding}
+use Rattle.plan.specs.declared.Coded.{Coded}
+use Rattle.plan.specs.declared.Coded.the-variants.{Stocks, Refused as No}
 use Rattle.plan.specs.declared.Counted.{Counted}
 use Rattle.plan.specs.declared.Counted.the-variants.{Count, Refused}
 
@@ -36,3 +38,59 @@ TurnsKept (Refused fault) buf = Unit {0}
 pub record TurnsRead (r : Counted) (buf : List ℕ) (out : Out (List ℕ)) : Type 0 where
   pub gives : turnsOut r buf ≡ out
   pub kept : TurnsKept r buf
+
+-- ---- codes: where each stands in the text, how long it is, and its key
+
+abbrev pub codeAt : List ℕ → List ℕ → List ℕ → ℕ → List ℕ
+codeAt text starts lens j = part text (getD starts j 0) (getD starts j 0 + getD lens j 0)
+
+unfoldable pub codesIn : List ℕ → List ℕ → List ℕ → ℕ → List (List ℕ)
+codesIn text starts lens zero = []
+codesIn text starts lens (suc k) = codesIn text starts lens k ++ (codeAt text starts lens k ∷ [])
+
+-- what stands at place j of the table is a code
+pub record Entry (text starts lens keys : List ℕ) (j : ℕ) : Type 0 where
+  pub inside : getD starts j 0 + getD lens j 0 ≤ length text
+  pub short : getD lens j 0 ≤ mostCode
+  pub keyed : getD keys j 0 ≡ keyOn 0 (codeAt text starts lens j)
+
+pub record Table (text starts lens keys : List ℕ) (count : ℕ) : Type 0 where
+  pub most : count ≤ mostStocks
+  pub starts-long : length starts ≡ mostStocks
+  pub lens-long : length lens ≡ mostStocks
+  pub keys-long : length keys ≡ mostStocks
+  pub entry : (j : ℕ) → j < count → Entry text starts lens keys j
+  pub rest : (j : ℕ) → count ≤ j → getD lens j 0 ≡ 0
+
+-- a code in hand, with its key, beside place j of the table
+pub record Beside (text : List ℕ) (at end key : ℕ) (starts lens keys : List ℕ) (j : ℕ) : Type 0 where
+  pub starts-at : at ≤ end
+  pub ends : end ≤ length text
+  pub key-is : key ≡ keyOn 0 (part text at end)
+  pub below : j < mostStocks
+  pub entry : Entry text starts lens keys j
+
+-- a code in hand, with its key, and the table
+pub record Known (text : List ℕ) (at end key : ℕ) (starts lens keys : List ℕ) (count : ℕ) : Type 0 where
+  pub starts-at : at ≤ end
+  pub ends : end ≤ length text
+  pub key-is : key ≡ keyOn 0 (part text at end)
+  pub table : Table text starts lens keys count
+
+-- a part of the text, and the table
+pub record Listed (text : List ℕ) (at end : ℕ) (starts lens keys : List ℕ) (count : ℕ) : Type 0 where
+  pub starts-at : at ≤ end
+  pub ends : end ≤ length text
+  pub table : Table text starts lens keys count
+
+abbrev pub codedOut : Coded → List ℕ → List ℕ → List ℕ → Out Holding
+codedOut (Stocks k s) text starts lens = taken (holding (codesIn text starts lens k) s)
+codedOut (No fault) text starts lens = no fault
+
+abbrev pub CodedKept : Coded → List ℕ → List ℕ → List ℕ → List ℕ → Type 0
+CodedKept (Stocks k s) text starts lens keys = Table text starts lens keys k
+CodedKept (No fault) text starts lens keys = Unit {0}
+
+pub record CodedRead (r : Coded) (text starts lens keys : List ℕ) (out : Out Holding) : Type 0 where
+  pub gives : codedOut r text starts lens ≡ out
+  pub kept : CodedKept r text starts lens keys

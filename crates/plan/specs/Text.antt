@@ -1,5 +1,5 @@
 -- A text is cut into lines, and a line into fields.
-use Prim.Native.Nat.{ℕ}
+use Prim.Native.Nat.{ℕ, zero, suc}
 use mathlib.Core.Bool.{Bool, true, false, _&&_, _||_}
 use mathlib.Core.List.{List, [], _∷_}
 use lib.Dec.{leb, eqb}
@@ -43,6 +43,15 @@ all f (b ∷ bs) = f b && all f bs
 -- "tab and 20 to 7E hex": what a line may hold
 abbrev pub fine : ℕ → Bool
 fine b = eqb b tab || (leb 0x20 b && leb b 0x7e)
+
+abbrev pub runMore : Bool → ℕ → ℕ
+runMore true n = suc n
+runMore false n = zero
+
+-- how many in front pass the test
+unfoldable pub run : {A : Type 0} → (A → Bool) → List A → ℕ
+run f [] = zero
+run f (x ∷ xs) = runMore (f x) (run f xs)
 
 -- "compared byte by byte"
 unfoldable pub same : List ℕ → List ℕ → Bool

@@ -1,7 +1,7 @@
--- The window on the text: a part of it, how far a run of bytes goes, the fields from a place on.
-use Prim.Native.Nat.{ℕ, zero, suc, _-_}
-use mathlib.Core.Bool.{Bool, true, false, cond, not}
-use mathlib.Core.List.{List, [], _∷_}
+-- The window on the text: a part of it, and the fields from a place on.
+use Prim.Native.Nat.{ℕ, _-_}
+use mathlib.Core.Bool.{Bool, cond, not}
+use mathlib.Core.List.{List, []}
 use lib.ListN.{take, drop}
 use lib.Dec.{leb, eqb}
 use Rattle.plan.specs.Text.{tab, fieldsOf}
@@ -9,15 +9,6 @@ use Rattle.plan.specs.Text.{tab, fieldsOf}
 -- the bytes from place a up to place e
 abbrev pub part : List ℕ → ℕ → ℕ → List ℕ
 part s a e = take (e - a) (drop a s)
-
-abbrev pub runMore : Bool → ℕ → ℕ
-runMore true n = suc n
-runMore false n = zero
-
--- how many bytes in front pass the test
-unfoldable pub run : (ℕ → Bool) → List ℕ → ℕ
-run f [] = zero
-run f (b ∷ bs) = runMore (f b) (run f bs)
 
 abbrev pub noTab : ℕ → Bool
 noTab b = not (eqb b tab)

@@ -6,9 +6,9 @@ use Prim.Native.String.{String, [] as ends, _∷_ as _then_}
 use mathlib.Core.Path.{_≡_, refl}
 use mathlib.Core.List.{List, [], _∷_, map}
 use lib.ListN.{take}
-use Rattle.plan.specs.Text.{parted, all, same}
+use Rattle.plan.specs.Text.{parted, all, run, same}
 use Rattle.plan.specs.Number.{valueOn, numberTo}
-use Rattle.plan.specs.Code.{codeOf, stockOf}
+use Rattle.plan.specs.Code.{codeOf}
 use Rattle.plan.specs.Refusal.{numberOf}
 use Rattle.plan.specs.Plan.{Held, Reading, plan, refused, each, station, takeTurn, takeCode, addStock, wordOf, hasLine, turnLine, laterLine, gangOf, firstLine, laterLines, reading}
 use Rattle.plan.specs.Plan as Plan
@@ -62,5 +62,5 @@ cases =
     ∷ []
 
 cases-right : map (λ (c : Case). shown (reading (bytes (c .text)))) cases ≡ map (λ (c : Case). c .gives) cases
-unfolding cases shown parted all same valueOn numberTo codeOf stockOf numberOf each station takeTurn takeCode addStock Plan.code wordOf hasLine turnLine laterLine gangOf firstLine laterLines reading
+unfolding cases shown parted all run same valueOn numberTo codeOf numberOf each station takeTurn takeCode addStock Plan.code wordOf hasLine turnLine laterLine gangOf firstLine laterLines reading
 cases-right = refl

@@ -48,6 +48,12 @@ enum Counted {
     Refused(Fault),
 }
 
+// What the codes of a `HAS` line give: how many stocks there are now and the station's set, or what it is refused for.
+enum Coded {
+    Stocks { count: usize, set: u64 },
+    Refused(Fault),
+}
+
 mod scan;
 
 mod number;
@@ -55,3 +61,5 @@ mod number;
 mod code;
 
 mod turns;
+
+mod stocks;

@@ -4,7 +4,8 @@ ghost use mathlib.Core.Bool.{not};
 ghost use Prim.Native.Nat.{_+_};
 ghost use lib.ListN.{drop};
 ghost use Rattle.plan.specs.Text as Text;
-ghost use Rattle.plan.specs.Window.{run, noTab};
+ghost use Rattle.plan.specs.Text.{run};
+ghost use Rattle.plan.specs.Window.{noTab};
 
 // Whether a line may hold the byte. Most are no tab and no control, so the lower bound is looked at first.
 fn fine(b: u8) -> bool

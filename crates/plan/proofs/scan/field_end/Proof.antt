@@ -8,7 +8,8 @@ use mathlib.Core.Bool.{not}
 use borrow.Author.Tests.{eq-eqb, ne-eqb}
 use lib.ListN.{length, getD, drop}
 use lib.Dec.{eqb}
-use Rattle.plan.specs.Window.{run, noTab}
+use Rattle.plan.specs.Text.{run}
+use Rattle.plan.specs.Window.{noTab}
 use Rattle.plan.proofs.Runs.{run-on, run-stops, run-ends}
 use Rattle.plan.proofs.scan.field_end.Statement.{statement}
 use Rattle.plan.proofs.scan.field_end.Tie as tie
@@ -31,7 +32,7 @@ returns : tie.Need-returns Inv-loop μ-loop
 returns c =
     let b = c .before .before .before in
     let l = b .before .args .line .now in
-    run-stops noTab l (b .loop .i) (search needs) (ap not (eq-eqb (getD l (b .loop .i) 0) 9 (c .if1 .taken))) ∙ sym (b .loop .inv)
+    run-stops 0 noTab l (b .loop .i) (search needs) (ap not (eq-eqb (getD l (b .loop .i) 0) 9 (c .if1 .taken))) ∙ sym (b .loop .inv)
 
 add-i : tie.Need-add-i Inv-loop μ-loop
 add-i c = omega arith
@@ -43,12 +44,12 @@ loop-again : tie.Need-loop-again Inv-loop μ-loop
 loop-again c =
     let b = c .before .before .before in
     let l = b .before .args .line .now in
-    b .loop .inv ∙ run-on noTab l (b .loop .i) (search needs) (ap not (ne-eqb (getD l (b .loop .i) 0) 9 (c .if1 .left)))
+    b .loop .inv ∙ run-on 0 noTab l (b .loop .i) (search needs) (ap not (ne-eqb (getD l (b .loop .i) 0) 9 (c .if1 .left)))
 
 returns-2 : tie.Need-returns-2 Inv-loop μ-loop
 returns-2 c =
     let b = c .before in
-    run-ends noTab (b .before .args .line .now) (b .loop .i) (search needs) ∙ sym (b .loop .inv)
+    run-ends 0 noTab (b .before .args .line .now) (b .loop .i) (search needs) ∙ sym (b .loop .inv)
 
 pub field-end-spec : {M : Type 1} → statement M
 field-end-spec =

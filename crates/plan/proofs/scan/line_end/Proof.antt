@@ -5,8 +5,7 @@ use mathlib.Core.Path.{_≡_, refl, sym, _∙_}
 use native.Mathlib.Omega.{arith}
 use borrow.Author.Needs.{needs}
 use lib.ListN.{length, getD, drop}
-use Rattle.plan.specs.Text.{fine}
-use Rattle.plan.specs.Window.{run}
+use Rattle.plan.specs.Text.{fine, run}
 use Rattle.plan.proofs.Runs.{run-on, run-stops, run-ends}
 use Rattle.plan.proofs.scan.line_end.Statement.{statement}
 use Rattle.plan.proofs.scan.line_end.Tie as tie
@@ -38,17 +37,17 @@ loop-less c = omega arith
 loop-again : tie.Need-loop-again Inv-loop μ-loop
 loop-again c =
     let b = c .before .before .before .before in
-    b .loop .inv ∙ run-on fine (b .before .before .args .text .now) (b .loop .i) (search needs) (sym (c .before .fine .ensures) ∙ c .if1 .taken)
+    b .loop .inv ∙ run-on 0 fine (b .before .before .args .text .now) (b .loop .i) (search needs) (sym (c .before .fine .ensures) ∙ c .if1 .taken)
 
 returns : tie.Need-returns Inv-loop μ-loop
 returns c =
     let b = c .before .before .before .before in
-    run-stops fine (b .before .before .args .text .now) (b .loop .i) (search needs) (sym (c .before .fine .ensures) ∙ c .if1 .left) ∙ sym (b .loop .inv)
+    run-stops 0 fine (b .before .before .args .text .now) (b .loop .i) (search needs) (sym (c .before .fine .ensures) ∙ c .if1 .left) ∙ sym (b .loop .inv)
 
 returns-2 : tie.Need-returns-2 Inv-loop μ-loop
 returns-2 c =
     let b = c .before in
-    run-ends fine (b .before .before .args .text .now) (b .loop .i) (search needs) ∙ sym (b .loop .inv)
+    run-ends 0 fine (b .before .before .args .text .now) (b .loop .i) (search needs) ∙ sym (b .loop .inv)
 
 pub line-end-spec : {M : Type 1} → statement M
 line-end-spec =
