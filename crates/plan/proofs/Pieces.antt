@@ -10,7 +10,7 @@ use lib.Dec.{eqb}
 use borrow.Author.Tests.{eq-eqb, ne-eqb}
 use Rattle.plan.specs.Text.{onto, joined, parted, all, run, runMore}
 
-pub run-most : (f : ℕ → Bool) (l : List ℕ) → run f l ≤ length l
+pub run-most : {A : Type 0} (f : A → Bool) (l : List A) → run f l ≤ length l
 unfolding run
 run-most f [] = omega arith
 run-most f (b ∷ bs) = more (f b) (run-most f bs)

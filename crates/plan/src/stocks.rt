@@ -64,14 +64,14 @@ fn add_stock(text: &[u8], at: usize, end: usize, count: usize, set: u64, starts:
             set: with_stock(set, j),
         };
     }
-    if j >= 64 {
+    if count >= 64 {
         return Coded::Refused(Fault::MoreStocks);
     }
-    starts[j] = at;
-    lens[j] = end - at;
-    keys[j] = key;
+    starts[count] = at;
+    lens[count] = end - at;
+    keys[count] = key;
     Coded::Stocks {
-        count: j + 1,
-        set: with_stock(set, j),
+        count: count + 1,
+        set: with_stock(set, count),
     }
 }
