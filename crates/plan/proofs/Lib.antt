@@ -5,5 +5,6 @@ pub mod Windows
 pub mod Fields
 pub mod Turned
 pub mod Listing
+pub mod Coding
 pub mod Numbers
 pub mod Codes

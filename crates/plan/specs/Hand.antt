@@ -3,9 +3,9 @@ use Prim.Native.Nat.{ℕ, zero, suc, _+_, _*_, _%_, _^_, _≤_, _<_}
 use mathlib.Core.Path.{_≡_}
 use mathlib.Core.List.{List, [], _∷_, _++_}
 use lib.ListN.{length, getD, take}
-use Rattle.plan.specs.Limits.{mostStocks, mostTurns, mostCode}
+use Rattle.plan.specs.Limits.{mostStations, mostStocks, mostTurns, mostCode}
 use Rattle.plan.specs.Window.{part}
-use Rattle.plan.specs.Plan.{Out, taken, no, Holding, holding}
+use Rattle.plan.specs.Plan.{Out, taken, no, Holding, holding, Stocked, stocked}
 use Rattle.plan.specs.declared.Coded.{Coded}
 use Rattle.plan.specs.declared.Coded.the-variants.{Stocks, Refused as No}
 use Rattle.plan.specs.declared.Counted.{Counted}
@@ -94,3 +94,28 @@ CodedKept (No fault) text starts lens keys = Unit {0}
 pub record CodedRead (r : Coded) (text starts lens keys : List ℕ) (out : Out Holding) : Type 0 where
   pub gives : codedOut r text starts lens ≡ out
   pub kept : CodedKept r text starts lens keys
+
+-- a line, and the table
+pub record CodesAt (text : List ℕ) (end : ℕ) (starts lens keys : List ℕ) (count : ℕ) : Type 0 where
+  pub ends : end ≤ length text
+  pub table : Table text starts lens keys count
+
+-- ---- the stocks of all stations
+
+pub record HasAt (text : List ℕ) (end n : ℕ) (sets starts lens keys : List ℕ) (count : ℕ) : Type 0 where
+  pub ends : end ≤ length text
+  pub stations : n ≤ mostStations
+  pub sets-long : length sets ≡ mostStations
+  pub table : Table text starts lens keys count
+
+abbrev pub stockedOut : Counted → List ℕ → List ℕ → List ℕ → List ℕ → Out Stocked
+stockedOut (Count k) text sets starts lens = taken (stocked (codesIn text starts lens k) sets)
+stockedOut (Refused fault) text sets starts lens = no fault
+
+abbrev pub StockedKept : Counted → List ℕ → List ℕ → List ℕ → List ℕ → List ℕ → Type 0
+StockedKept (Count k) text sets starts lens keys = (length sets ≡ mostStations) × Table text starts lens keys k
+StockedKept (Refused fault) text sets starts lens keys = Unit {0}
+
+pub record StockedRead (r : Counted) (text sets starts lens keys : List ℕ) (out : Out Stocked) : Type 0 where
+  pub gives : stockedOut r text sets starts lens ≡ out
+  pub kept : StockedKept r text sets starts lens keys
