@@ -6,5 +6,6 @@ pub mod Fields
 pub mod Turned
 pub mod Listing
 pub mod Coding
+pub mod HasLines
 pub mod Numbers
 pub mod Codes

@@ -109,3 +109,13 @@ module _ (hi : ℕ) (f : List ℕ) (h : 0 < length f) where
 
   pub field-digit : 49 ≤ getD f 0 0 → getD f 0 0 ≤ 57 → numberTo hi f ≡ toGo hi (getD f 0 0 - 48) (drop 1 f)
   field-digit l g = ap (numberTo hi) (drop-cons f 0 0 h) ∙ first-digit hi (getD f 0 0) (drop 1 f) l g
+
+-- it is no more than hi
+pub number-most : (hi : ℕ) (f : List ℕ) → numberTo hi f ≤ hi
+unfolding numberTo
+number-most hi f = by-cases (numeral f) (leb (valueOf f) hi) refl
+  where
+    by-cases : (s t : Bool) → leb (valueOf f) hi ≡ t → cond (s && t) (valueOf f) 0 ≤ hi
+    by-cases true true e = leb-true (valueOf f) hi e
+    by-cases true false e = omega arith
+    by-cases false t e = omega arith
