@@ -7,5 +7,7 @@ pub mod Turned
 pub mod Listing
 pub mod Coding
 pub mod HasLines
+pub mod GangLines
+pub mod LineWays
 pub mod Numbers
 pub mod Codes

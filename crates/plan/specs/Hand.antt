@@ -5,7 +5,11 @@ use mathlib.Core.List.{List, [], _∷_, _++_}
 use lib.ListN.{length, getD, take}
 use Rattle.plan.specs.Limits.{mostStations, mostStocks, mostTurns, mostCode}
 use Rattle.plan.specs.Window.{part}
-use Rattle.plan.specs.Plan.{Out, taken, no, Holding, holding, Stocked, stocked}
+use Rattle.plan.specs.Plan.{Out, taken, no, Holding, holding, Stocked, stocked, Held, held, Reading, plan, refused}
+use Rattle.plan.specs.declared.Answer.{Answer}
+use Rattle.plan.specs.declared.Answer.the-variants.{Plan, Refused as Nay}
+use Rattle.plan.specs.declared.Line.{Line}
+use Rattle.plan.specs.declared.Line.the-variants.{More, Refused as Bad}
 use Rattle.plan.specs.declared.Coded.{Coded}
 use Rattle.plan.specs.declared.Coded.the-variants.{Stocks, Refused as No}
 use Rattle.plan.specs.declared.Counted.{Counted}
@@ -119,3 +123,54 @@ StockedKept (Refused fault) text sets starts lens keys = Unit {0}
 pub record StockedRead (r : Counted) (text sets starts lens keys : List ℕ) (out : Out Stocked) : Type 0 where
   pub gives : stockedOut r text sets starts lens ≡ out
   pub kept : StockedKept r text sets starts lens keys
+
+-- ---- all that is in hand: the buffers, and the plan that they stand for
+
+pub record Hand : Type 0 where
+  pub sets : List ℕ
+  pub starts : List ℕ
+  pub lens : List ℕ
+  pub keys : List ℕ
+  pub turns : List ℕ
+
+abbrev pub hand : List ℕ → List ℕ → List ℕ → List ℕ → List ℕ → Hand
+hand sets starts lens keys turns = record { sets = sets; starts = starts; lens = lens; keys = keys; turns = turns }
+
+abbrev pub heldOf : List ℕ → ℕ → Hand → ℕ → ℕ → Held
+heldOf text n b stocks turns = held n (stocked (codesIn text (b .starts) (b .lens) stocks) (b .sets)) (take turns (b .turns))
+
+pub record PlanIn (text : List ℕ) (n : ℕ) (b : Hand) (stocks turned : ℕ) : Type 0 where
+  pub stations : n ≤ mostStations
+  pub sets-long : length (b .sets) ≡ mostStations
+  pub table : Table text (b .starts) (b .lens) (b .keys) stocks
+  pub turns : TurnsIn turned (b .turns)
+
+-- a line, and the plan so far
+pub record LineAt (text : List ℕ) (at end n : ℕ) (b : Hand) (stocks turned : ℕ) : Type 0 where
+  pub starts-at : at ≤ end
+  pub ends : end ≤ length text
+  pub plan : PlanIn text n b stocks turned
+
+abbrev pub lineOut : Line → List ℕ → ℕ → Hand → Out Held
+lineOut (More s t) text n b = taken (heldOf text n b s t)
+lineOut (Bad fault) text n b = no fault
+
+abbrev pub LineKept : Line → List ℕ → ℕ → Hand → Type 0
+LineKept (More s t) text n b = PlanIn text n b s t
+LineKept (Bad fault) text n b = Unit {0}
+
+pub record LineRead (r : Line) (text : List ℕ) (n : ℕ) (b : Hand) (out : Out Held) : Type 0 where
+  pub gives : lineOut r text n b ≡ out
+  pub kept : LineKept r text n b
+
+abbrev pub planOut : Answer → List ℕ → Hand → Reading
+planOut (Plan n s t) text b = plan (heldOf text n b s t)
+planOut (Nay fault place) text b = refused fault place
+
+abbrev pub PlanKept : Answer → List ℕ → Hand → Type 0
+PlanKept (Plan n s t) text b = PlanIn text n b s t
+PlanKept (Nay fault place) text b = Unit {0}
+
+pub record PlanRead (r : Answer) (text : List ℕ) (b : Hand) (out : Reading) : Type 0 where
+  pub gives : planOut r text b ≡ out
+  pub kept : PlanKept r text b

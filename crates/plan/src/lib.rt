@@ -54,6 +54,12 @@ enum Coded {
     Refused(Fault),
 }
 
+// What a later line gives: how many stocks and turns there are now, or what it is refused for.
+enum Line {
+    More { stocks: usize, turns: usize },
+    Refused(Fault),
+}
+
 mod scan;
 
 mod number;
@@ -63,3 +69,5 @@ mod code;
 mod turns;
 
 mod stocks;
+
+mod lines;
