@@ -5,7 +5,7 @@ use mathlib.Core.Bool.{Bool, cond}
 use mathlib.Core.List.{List, [], _∷_}
 use lib.ListN.{length, take, drop}
 use lib.Dec.{leb}
-use borrow.Author.Tests.{lt-leb}
+use borrow.Author.Tests.{le-leb, lt-leb}
 use Rattle.plan.specs.Text.{fieldsOf, run}
 use Rattle.plan.specs.Plan.{Out, taken, no, then, each}
 use Rattle.plan.specs.Window.{part, noTab, fieldsFrom}
@@ -15,6 +15,10 @@ use Rattle.plan.proofs.Windows.{fields-step}
 pub fields-none : (text : List ℕ) (i end : ℕ) → end < i → fieldsFrom text i end ≡ []
 unfolding fieldsFrom
 fields-none text i end h = ap (λ (t : Bool). cond t (fieldsOf (part text i end)) []) (lt-leb i end h)
+
+pub fields-here : (text : List ℕ) (i end : ℕ) → i ≤ end → fieldsFrom text i end ≡ fieldsOf (part text i end)
+unfolding fieldsFrom
+fields-here text i end h = ap (λ (t : Bool). cond t (fieldsOf (part text i end)) []) (le-leb i end h)
 
 module _ {A : Type 0} (step : A → List ℕ → Out A) (text : List ℕ) (end : ℕ) (inside : end ≤ length text) (out : Out A) (a : A) (i : ℕ)
     (so-far : out ≡ each step a (fieldsFrom text i end)) where

@@ -9,5 +9,6 @@ pub mod Coding
 pub mod HasLines
 pub mod GangLines
 pub mod LineWays
+pub mod Later
 pub mod Numbers
 pub mod Codes

@@ -7,7 +7,7 @@ use lib.ListN.{length, take, drop}
 use Rattle.plan.specs.Text.{run}
 use Rattle.plan.specs.Plan.{Out, taken, no, then, Stocked, stocked, hasLine, turnLine, Held, held, wordOf, wordLine, laterFields}
 use Rattle.plan.specs.Window.{part, noTab, fieldsFrom}
-use Rattle.plan.specs.Hand.{TurnsRead, codesIn, StockedRead, Hand, hand, heldOf, LineAt, LineRead}
+use Rattle.plan.specs.Hand.{TurnsRead, codesIn, StockedRead, Hand, hand, heldOf, PlanIn, LineAt, LineRead}
 use Rattle.plan.specs.declared.Word.{Word}
 use Rattle.plan.specs.declared.Word.the-variants.{Has, Turn, Other}
 use Rattle.plan.specs.declared.Fault.{Fault}
@@ -71,3 +71,18 @@ module _ (text : List ℕ) (at end n : ℕ) (b : Hand) (stocks turned : ℕ) (pr
         { gives = ap (λ (o : Out (List ℕ)). then o (λ ts. taken (held n (stocked (codesIn text (b .starts) (b .lens) stocks) (b .sets)) ts))) (turns-had (Refused fault) f-is .gives) ∙ sym (opened Turn v)
         ; kept = tt
         }
+
+-- ---- a result of a known kind
+
+module _ {text : List ℕ} {n : ℕ} {b : Hand} {out : Out Held} {r : Line} (h : LineRead r text n b out) where
+  as-more : (s t : ℕ) → r ≡ More s t → LineRead (More s t) text n b out
+  as-more s t e = subst (λ (x : Line). LineRead x text n b out) e h
+
+  pub more-gives : (s t : ℕ) → r ≡ More s t → out ≡ taken (heldOf text n b s t)
+  more-gives s t e = sym (as-more s t e .gives)
+
+  pub more-kept : (s t : ℕ) → r ≡ More s t → PlanIn text n b s t
+  more-kept s t e = as-more s t e .kept
+
+  pub bad-gives : (fault : Fault) → r ≡ Bad fault → out ≡ no fault
+  bad-gives fault e = sym (subst (λ (x : Line). LineRead x text n b out) e h .gives)

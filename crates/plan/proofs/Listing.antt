@@ -19,14 +19,10 @@ use Rattle.plan.specs.Window.{part}
 use Rattle.plan.specs.Hand.{keyOn, codeAt, codesIn, Entry, Table, Listed, CodedRead}
 use Rattle.plan.specs.declared.Coded.the-variants.{Stocks, Refused}
 use Rattle.plan.specs.declared.Fault.the-variants.{MoreStocks}
-use Rattle.plan.proofs.Runs.{run-on, run-stops, run-ends}
+use Rattle.plan.proofs.Runs.{both-true, run-on, run-stops, run-ends}
 use Rattle.plan.proofs.Pieces.{run-most}
 
 -- ---- the same bytes
-
-both-true : (s t : Bool) → (s && t) ≡ true → (s ≡ true) × (t ≡ true)
-both-true true t e = (refl, e)
-both-true false t e = absurd (true≢false (sym e))
 
 pub same-is : (a b : List ℕ) → same a b ≡ true → a ≡ b
 unfolding same
