@@ -10,5 +10,6 @@ pub mod HasLines
 pub mod GangLines
 pub mod LineWays
 pub mod Later
+pub mod Celled
 pub mod Numbers
 pub mod Codes

@@ -2,9 +2,10 @@
 use Prim.Native.Nat.{ℕ, zero, suc, _+_, _*_, _%_, _^_, _≤_, _<_}
 use mathlib.Core.Path.{_≡_}
 use mathlib.Core.List.{List, [], _∷_, _++_}
-use lib.ListN.{length, getD, take}
+use lib.ListN.{length, getD, take, replicate}
 use Rattle.plan.specs.Limits.{mostStations, mostStocks, mostTurns, mostCode}
 use Rattle.plan.specs.Window.{part}
+use Rattle.plan.specs.Buffers.{padded}
 use Rattle.plan.specs.Plan.{Out, taken, no, Holding, holding, Stocked, stocked, Held, held, Reading, plan, refused}
 use Rattle.plan.specs.declared.Answer.{Answer}
 use Rattle.plan.specs.declared.Answer.the-variants.{Plan, Refused as Nay}
@@ -174,3 +175,22 @@ PlanKept (Nay fault place) text b = Unit {0}
 pub record PlanRead (r : Answer) (text : List ℕ) (b : Hand) (out : Reading) : Type 0 where
   pub gives : planOut r text b ≡ out
   pub kept : PlanKept r text b
+
+-- nothing in hand yet
+pub record Clear (text : List ℕ) (b : Hand) : Type 0 where
+  pub sets : b .sets ≡ replicate mostStations 0
+  pub table : Table text (b .starts) (b .lens) (b .keys) 0
+  pub turns : TurnsIn 0 (b .turns)
+
+-- ---- a code into its cell, and all of them
+
+pub record CellAt (text : List ℕ) (start len at : ℕ) (cells : List ℕ) : Type 0 where
+  pub ends : start + len ≤ length text
+  pub room : at + len ≤ length cells
+  pub long : length cells ≡ mostStocks * mostCode
+
+pub record CellsAt (text starts lens : List ℕ) (count : ℕ) (cells : List ℕ) : Type 0 where
+  pub most : count ≤ mostStocks
+  pub ends : (j : ℕ) → j < count → getD starts j 0 + getD lens j 0 ≤ length text
+  pub short : (j : ℕ) → j < count → getD lens j 0 ≤ mostCode
+  pub clear : cells ≡ padded (mostStocks * mostCode) []

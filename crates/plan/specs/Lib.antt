@@ -7,4 +7,5 @@ pub mod Refusal
 pub mod Plan
 pub mod Window
 pub mod Hand
+pub mod Buffers
 pub mod Worked

@@ -71,3 +71,5 @@ mod turns;
 mod stocks;
 
 mod lines;
+
+mod cells;

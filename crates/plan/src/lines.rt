@@ -3,10 +3,10 @@ ghost use mathlib.Core.Path.{_≡_};
 ghost use Prim.Native.Nat.{_≤_};
 ghost use lib.ListN.{length, drop};
 ghost use Rattle.plan.specs.Text.{linesOf};
-ghost use Rattle.plan.specs.Plan.{wordOf, gangOf, laterFields, laterLines};
+ghost use Rattle.plan.specs.Plan.{wordOf, gangOf, laterFields, laterLines, allLines};
 ghost use Rattle.plan.specs.Window as Window;
 ghost use Rattle.plan.specs.Window.{fieldsFrom};
-ghost use Rattle.plan.specs.Hand.{hand, heldOf, PlanIn, LineAt, LineRead, PlanRead};
+ghost use Rattle.plan.specs.Hand.{hand, heldOf, PlanIn, LineAt, LineRead, PlanRead, Clear};
 use super::Answer;
 use super::Counted;
 use super::Fault;
@@ -117,4 +117,20 @@ fn later_lines(text: &[u8], from: usize, n: u8, sets: &mut [u64; 16], starts: &m
         }
     }
     Answer::Plan { stations: n, stocks: stocks, turns: turned }
+}
+
+// All lines, into buffers that hold nothing yet.
+pub fn all_lines(text: &[u8], sets: &mut [u64; 16], starts: &mut [usize; 64], lens: &mut [usize; 64], keys: &mut [u64; 64], turns: &mut [u8; 4096]) -> Answer
+    requires { ⌜ Clear (now text) (hand (now sets) (now starts) (now lens) (now keys) (now turns)) ⌝ }
+    ensures { λ r. ⌜ PlanRead r (now (text .entry)) (hand (now (sets .exit)) (now (starts .exit)) (now (lens .exit)) (now (keys .exit)) (now (turns .exit))) (allLines (linesOf (now (text .entry)))) ⌝ }
+{
+    let end = line_end(text, 0);
+    if strays(text, end) {
+        return Answer::Refused { fault: Fault::StrayByte, place: 1 };
+    }
+    let n = gang(text, end);
+    if n == 0 {
+        return Answer::Refused { fault: Fault::NoGang, place: 1 };
+    }
+    later_lines(text, end + 1, n, sets, starts, lens, keys, turns)
 }
