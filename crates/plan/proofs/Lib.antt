@@ -11,5 +11,6 @@ pub mod GangLines
 pub mod LineWays
 pub mod Later
 pub mod Celled
+pub mod Whole
 pub mod Numbers
 pub mod Codes

@@ -172,5 +172,9 @@ allLines [] = refused NoGang 1
 allLines (l ∷ ls) = atLine 1 (firstLine l) (λ h. laterLines 2 h ls)
 
 -- "11 comes first."
+abbrev pub sized : Bool → List ℕ → Reading
+sized true text = allLines (linesOf text)
+sized false text = refused LongText 0
+
 unfoldable pub reading : List ℕ → Reading
-reading text = elim (leb (length text) mostBytes) [ true ↦ allLines (linesOf text) | false ↦ refused LongText 0 ]
+reading text = sized (leb (length text) mostBytes) text
