@@ -64,7 +64,7 @@ module _ (x c : List ℕ) (n : ℕ) (room : length x + mostCode ≤ n) (short : 
       let both : zeros (mostCode - length c) ++ zeros z ≡ zeros (mostCode - length c + z) = replicate-append-replicate (mostCode - length c) z 0 in
       let left : paste (padded n x) (length x) c (length c) ≡ (x ++ c) ++ zeros (m - length c) = rw (front, middle, behind) in
       let right : padded n (x ++ padded mostCode c) ≡ (x ++ c) ++ (zeros (mostCode - length c) ++ zeros z) =
-          ap (λ (l : List ℕ). l ++ zeros z) (sym (append-assoc x c (zeros (mostCode - length c)))) ∙ append-assoc (x ++ c) (zeros (mostCode - length c)) (zeros z) in
+      ap (λ (l : List ℕ). l ++ zeros z) (sym (append-assoc x c (zeros (mostCode - length c)))) ∙ append-assoc (x ++ c) (zeros (mostCode - length c)) (zeros z) in
       left ∙ ap (λ (k : ℕ). (x ++ c) ++ zeros k) rest ∙ ap (λ (l : List ℕ). (x ++ c) ++ l) (sym both) ∙ sym right
 
 -- the cells of one code more
@@ -95,7 +95,7 @@ module _ (text starts lens : List ℕ) (count : ℕ) (cells : List ℕ) (h : Cel
   -- the next code into the next cell
   pub code-more : (k at : ℕ) → k < count → at ≡ k * mostCode
       → paste (padded (mostStocks * mostCode) (cellsOf (codesIn text starts lens k))) at (codeAt text starts lens k) (getD lens k 0)
-        ≡ padded (mostStocks * mostCode) (cellsOf (codesIn text starts lens (k + 1)))
+      ≡ padded (mostStocks * mostCode) (cellsOf (codesIn text starts lens (k + 1)))
   unfolding codesIn
   code-more k at l a =
       let x : List ℕ = cellsOf (codesIn text starts lens k) in

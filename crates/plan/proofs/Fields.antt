@@ -22,7 +22,6 @@ fields-here text i end h = ap (λ (t : Bool). cond t (fieldsOf (part text i end)
 
 module _ {A : Type 0} (step : A → List ℕ → Out A) (text : List ℕ) (end : ℕ) (inside : end ≤ length text) (out : Out A) (a : A) (i : ℕ)
     (so-far : out ≡ each step a (fieldsFrom text i end)) where
-
   pub no-field : end < i → taken a ≡ out
   unfolding each
   no-field h = sym (so-far ∙ ap (each step a) (fields-none text i end h))

@@ -20,7 +20,6 @@ use Rattle.plan.proofs.Windows.{fields-step}
 
 module _ (text : List ℕ) (at end n : ℕ) (b : Hand) (stocks turned : ℕ) (pre : LineAt text at end n b stocks turned)
     (e : ℕ) (e-is : e ≡ at + run noTab (drop at (take end text))) (w : Word) (w-is : w ≡ wordOf (part text at e)) where
-
   opened : (v : Word) → w ≡ v → laterFields (heldOf text n b stocks turned) (fieldsFrom text at end) ≡ wordLine v (heldOf text n b stocks turned) (fieldsFrom text (e + 1) end)
   opened v v-is =
       ap (laterFields (heldOf text n b stocks turned)) (fields-step text at end e (pre .starts-at) (pre .ends) e-is)
@@ -38,17 +37,17 @@ module _ (text : List ℕ) (at end n : ℕ) (b : Hand) (stocks turned : ℕ) (pr
         → LineRead (More k turned) text n (hand sets starts lens keys (b .turns)) (laterFields (heldOf text n b stocks turned) (fieldsFrom text at end))
     has-way k k-is =
         let q = had (Count k) k-is in
-        record
-        { gives = ap (λ (o : Out Stocked). then o (λ s. taken (held n s (take turned (b .turns))))) (q .gives) ∙ sym (opened Has v)
-        ; kept = record { stations = pre .plan .stations; sets-long = q .kept .0; table = q .kept .1; turns = pre .plan .turns }
+        record {
+          gives = ap (λ (o : Out Stocked). then o (λ s. taken (held n s (take turned (b .turns))))) (q .gives) ∙ sym (opened Has v);
+          kept = record { stations = pre .plan .stations; sets-long = q .kept .0; table = q .kept .1; turns = pre .plan .turns };
         }
 
     pub has-no-way : (fault : Fault) → r ≡ Refused fault → (b′ : Hand)
         → LineRead (Bad fault) text n b′ (laterFields (heldOf text n b stocks turned) (fieldsFrom text at end))
     has-no-way fault f-is b′ =
-        record
-        { gives = ap (λ (o : Out Stocked). then o (λ s. taken (held n s (take turned (b .turns))))) (had (Refused fault) f-is .gives) ∙ sym (opened Has v)
-        ; kept = tt
+        record {
+          gives = ap (λ (o : Out Stocked). then o (λ s. taken (held n s (take turned (b .turns))))) (had (Refused fault) f-is .gives) ∙ sym (opened Has v);
+          kept = tt;
         }
 
   module _ (v : w ≡ Turn) (r : Counted) (turns : List ℕ) (h : TurnsRead r turns (turnLine n (take turned (b .turns)) (fieldsFrom text (e + 1) end))) where
@@ -59,17 +58,17 @@ module _ (text : List ℕ) (at end n : ℕ) (b : Hand) (stocks turned : ℕ) (pr
         → LineRead (More stocks k) text n (hand (b .sets) (b .starts) (b .lens) (b .keys) turns) (laterFields (heldOf text n b stocks turned) (fieldsFrom text at end))
     turn-way k k-is =
         let q = turns-had (Count k) k-is in
-        record
-        { gives = ap (λ (o : Out (List ℕ)). then o (λ ts. taken (held n (stocked (codesIn text (b .starts) (b .lens) stocks) (b .sets)) ts))) (q .gives) ∙ sym (opened Turn v)
-        ; kept = record { stations = pre .plan .stations; sets-long = pre .plan .sets-long; table = pre .plan .table; turns = q .kept }
+        record {
+          gives = ap (λ (o : Out (List ℕ)). then o (λ ts. taken (held n (stocked (codesIn text (b .starts) (b .lens) stocks) (b .sets)) ts))) (q .gives) ∙ sym (opened Turn v);
+          kept = record { stations = pre .plan .stations; sets-long = pre .plan .sets-long; table = pre .plan .table; turns = q .kept };
         }
 
     pub turn-no-way : (fault : Fault) → r ≡ Refused fault → (b′ : Hand)
         → LineRead (Bad fault) text n b′ (laterFields (heldOf text n b stocks turned) (fieldsFrom text at end))
     turn-no-way fault f-is b′ =
-        record
-        { gives = ap (λ (o : Out (List ℕ)). then o (λ ts. taken (held n (stocked (codesIn text (b .starts) (b .lens) stocks) (b .sets)) ts))) (turns-had (Refused fault) f-is .gives) ∙ sym (opened Turn v)
-        ; kept = tt
+        record {
+          gives = ap (λ (o : Out (List ℕ)). then o (λ ts. taken (held n (stocked (codesIn text (b .starts) (b .lens) stocks) (b .sets)) ts))) (turns-had (Refused fault) f-is .gives) ∙ sym (opened Turn v);
+          kept = tt;
         }
 
 -- ---- a result of a known kind

@@ -150,36 +150,36 @@ module _ (text starts lens keys : List ℕ) (count at end key : ℕ) (listed : L
   unfolding codesIn
   codes-more =
       let p : codesIn text (set starts count at) (set lens count (end - at)) count ≡ codesIn text starts lens count =
-          codes-agree text (set starts count at) (set lens count (end - at)) starts lens count (λ j h. code-there j (λ e. omega arith)) in
+      codes-agree text (set starts count at) (set lens count (end - at)) starts lens count (λ j h. code-there j (λ e. omega arith)) in
       rw (add-one, p, code-here)
 
   new-entry : Entry text (set starts count at) (set lens count (end - at)) (set keys count key) count
   new-entry =
-      record
-      { inside = omega (arith, start-here, len-here, listed .starts-at, listed .ends)
-      ; short = omega (arith, len-here)
-      ; keyed = key-here ∙ key-is ∙ ap (keyOn 0) (sym code-here)
+      record {
+        inside = omega (arith, start-here, len-here, listed .starts-at, listed .ends);
+        short = omega (arith, len-here);
+        keyed = key-here ∙ key-is ∙ ap (keyOn 0) (sym code-here);
       }
 
   old-entry : (j : ℕ) → j < count → Entry text (set starts count at) (set lens count (end - at)) (set keys count key) j
   old-entry j h =
       let other : j ≡ count → ⊥ = λ e. omega arith in
       let o = listed .table .entry j h in
-      record
-      { inside = omega (arith, start-there j other, len-there j other, o .inside)
-      ; short = omega (arith, len-there j other, o .short)
-      ; keyed = key-there j other ∙ o .keyed ∙ ap (keyOn 0) (sym (code-there j other))
+      record {
+        inside = omega (arith, start-there j other, len-there j other, o .inside);
+        short = omega (arith, len-there j other, o .short);
+        keyed = key-there j other ∙ o .keyed ∙ ap (keyOn 0) (sym (code-there j other));
       }
 
   pub table-more : Table text (set starts count at) (set lens count (end - at)) (set keys count key) (count + 1)
   table-more =
-      record
-      { most = omega arith
-      ; starts-long = length-set starts count at ∙ listed .table .starts-long
-      ; lens-long = length-set lens count (end - at) ∙ listed .table .lens-long
-      ; keys-long = length-set keys count key ∙ listed .table .keys-long
-      ; entry = λ j h. ⊎-elim (λ (e : j ≡ count). subst (Entry text (set starts count at) (set lens count (end - at)) (set keys count key)) (sym e) new-entry) (λ (m : j < count). old-entry j m) (eq-or-lt-of-le (below j h))
-      ; rest = λ j h. len-there j (λ e. omega arith) ∙ listed .table .rest j (omega arith)
+      record {
+        most = omega arith;
+        starts-long = length-set starts count at ∙ listed .table .starts-long;
+        lens-long = length-set lens count (end - at) ∙ listed .table .lens-long;
+        keys-long = length-set keys count key ∙ listed .table .keys-long;
+        entry = λ j h. ⊎-elim (λ (e : j ≡ count). subst (Entry text (set starts count at) (set lens count (end - at)) (set keys count key)) (sym e) new-entry) (λ (m : j < count). old-entry j m) (eq-or-lt-of-le (below j h));
+        rest = λ j h. len-there j (λ e. omega arith) ∙ listed .table .rest j (omega arith);
       }
     where
       below : (j : ℕ) → j < count + 1 → j ≤ count
@@ -192,29 +192,29 @@ module _ (text starts lens keys : List ℕ) (count at end key set-of k : ℕ) (l
   pub read-known : (s : ℕ) → k < count → s ≡ withStock set-of k
       → CodedRead (Stocks count s) text starts lens keys (addStock (holding (codesIn text starts lens count) set-of) (part text at end))
   read-known s h e =
-      record
-      { gives =
-          ap (λ (m : ℕ). taken (holding (codesIn text starts lens count) m)) e
-          ∙ add-known (codesIn text starts lens count) set-of (part text at end) count k (codes-length text starts lens count) k-is h
-      ; kept = listed .table
+      record {
+        gives =
+            ap (λ (m : ℕ). taken (holding (codesIn text starts lens count) m)) e
+            ∙ add-known (codesIn text starts lens count) set-of (part text at end) count k (codes-length text starts lens count) k-is h;
+        kept = listed .table;
       }
 
   pub read-most : count ≤ k → mostStocks ≤ count
       → CodedRead (Refused MoreStocks) text starts lens keys (addStock (holding (codesIn text starts lens count) set-of) (part text at end))
   read-most h m =
-      record
-      { gives = add-most (codesIn text starts lens count) set-of (part text at end) count k (codes-length text starts lens count) k-is h m
-      ; kept = tt
+      record {
+        gives = add-most (codesIn text starts lens count) set-of (part text at end) count k (codes-length text starts lens count) k-is h m;
+        kept = tt;
       }
 
   pub read-new : (s : ℕ) → count ≤ k → count < mostStocks → end ≤ at + mostCode → key ≡ keyOn 0 (part text at end) → s ≡ withStock set-of count
       → CodedRead (Stocks (count + 1) s) text (set starts count at) (set lens count (end - at)) (set keys count key)
-        (addStock (holding (codesIn text starts lens count) set-of) (part text at end))
+      (addStock (holding (codesIn text starts lens count) set-of) (part text at end))
   read-new s h room short key-is e =
-      record
-      { gives =
-          ap (λ (m : ℕ). taken (holding (codesIn text (set starts count at) (set lens count (end - at)) (count + 1)) m)) e
-          ∙ ap (λ (cs : List (List ℕ)). taken (holding cs (withStock set-of count))) (codes-more text starts lens keys count at end key listed room short key-is)
-          ∙ add-new (codesIn text starts lens count) set-of (part text at end) count k (codes-length text starts lens count) k-is h room
-      ; kept = table-more text starts lens keys count at end key listed room short key-is
+      record {
+        gives =
+            ap (λ (m : ℕ). taken (holding (codesIn text (set starts count at) (set lens count (end - at)) (count + 1)) m)) e
+            ∙ ap (λ (cs : List (List ℕ)). taken (holding cs (withStock set-of count))) (codes-more text starts lens keys count at end key listed room short key-is)
+            ∙ add-new (codesIn text starts lens count) set-of (part text at end) count k (codes-length text starts lens count) k-is h room;
+        kept = table-more text starts lens keys count at end key listed room short key-is;
       }

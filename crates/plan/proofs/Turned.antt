@@ -59,10 +59,10 @@ module _ (n : ℕ) (f : List ℕ) (s : ℕ) (s-is : s ≡ numberTo n f) (buf : L
 
 pub turns-more : (k : ℕ) (buf : List ℕ) (s : ℕ) → k < mostTurns → TurnsIn k buf → TurnsIn (k + 1) (set buf k s)
 turns-more k buf s h good =
-    record
-    { most = omega arith
-    ; long = length-set buf k s ∙ good .long
-    ; rest = λ j l. getD-set-other buf k j s 0 (λ e. omega arith) ∙ good .rest j (omega arith)
+    record {
+      most = omega arith;
+      long = length-set buf k s ∙ good .long;
+      rest = λ j l. getD-set-other buf k j s 0 (λ e. omega arith) ∙ good .rest j (omega arith);
     }
 
 -- ---- the line

@@ -40,18 +40,18 @@ zeros-at (suc n) (suc j) = zeros-at n j
 
 pub clear : (text : List ℕ) → Clear text (hand (zeros mostStations) (zeros mostStocks) (zeros mostStocks) (zeros mostStocks) (zeros mostTurns))
 clear text =
-    record
-    { sets = refl
-    ; table =
-        record
-        { most = zero-le
-        ; starts-long = length-replicate {A = ℕ} mostStocks 0
-        ; lens-long = length-replicate {A = ℕ} mostStocks 0
-        ; keys-long = length-replicate {A = ℕ} mostStocks 0
-        ; entry = λ j h. absurd (omega arith)
-        ; rest = λ j h. zeros-at mostStocks j
-        }
-    ; turns = record { most = zero-le; long = length-replicate {A = ℕ} mostTurns 0; rest = λ j h. zeros-at mostTurns j }
+    record {
+      sets = refl;
+      table =
+          record {
+            most = zero-le;
+            starts-long = length-replicate {A = ℕ} mostStocks 0;
+            lens-long = length-replicate {A = ℕ} mostStocks 0;
+            keys-long = length-replicate {A = ℕ} mostStocks 0;
+            entry = λ j h. absurd (omega arith);
+            rest = λ j h. zeros-at mostStocks j;
+          };
+      turns = record { most = zero-le; long = length-replicate {A = ℕ} mostTurns 0; rest = λ j h. zeros-at mostTurns j };
     }
 
 -- ---- what is past the count is 0
@@ -79,11 +79,11 @@ map-snoc (d ∷ cs) c = ap (λ (l : List ℕ). length d ∷ l) (map-snoc cs c)
 module _ (text : List ℕ) (n : ℕ) (b : Hand) (stocks turned : ℕ) (h : PlanIn text n b stocks turned) where
   pub cells-asked : CellsAt text (b .starts) (b .lens) stocks (zeros (mostStocks * mostCode))
   cells-asked =
-      record
-      { most = h .table .most
-      ; ends = λ j l. h .table .entry j l .inside
-      ; short = λ j l. h .table .entry j l .short
-      ; clear = padded-none (mostStocks * mostCode)
+      record {
+        most = h .table .most;
+        ends = λ j l. h .table .entry j l .inside;
+        short = λ j l. h .table .entry j l .short;
+        clear = padded-none (mostStocks * mostCode);
       }
 
   lens-front : (k : ℕ) → k ≤ stocks → take k (b .lens) ≡ map length (codesIn text (b .starts) (b .lens) k)
@@ -119,24 +119,38 @@ module _ (text : List ℕ) (n : ℕ) (b : Hand) (stocks turned : ℕ) (h : PlanI
       → (cells : List ℕ) → cells ≡ padded (mostStocks * mostCode) (cellsOf (codesIn text (b .starts) (b .lens) stocks))
       → (sets′ codes′ lens′ turns′ : List ℕ)
       → (counts n stocks turned ≡ toldOf out)
-        × ((b .sets ≡ setsAfter out sets′) × ((cells ≡ codesAfter out codes′) × ((b .lens ≡ lensAfter out lens′) × (b .turns ≡ turnsAfter out turns′))))
-  plan-out out e cells c sets′ codes′ lens′ turns′ =
-      ( told-counts ∙ ap toldOf e
-      , ( ap (λ (o : Reading). setsAfter o sets′) e
-        , ( c ∙ ap (λ (o : Reading). codesAfter o codes′) e
-          , ( lens-are ∙ ap (λ (o : Reading). lensAfter o lens′) e
-            , turns-are ∙ ap (λ (o : Reading). turnsAfter o turns′) e))))
+      × ((b .sets ≡ setsAfter out sets′) × ((cells ≡ codesAfter out codes′) × ((b .lens ≡ lensAfter out lens′) × (b .turns ≡ turnsAfter out turns′))))
+  plan-out out e cells c sets′ codes′ lens′ turns′ = (
+    told-counts ∙ ap toldOf e,
+    (
+      ap (λ (o : Reading). setsAfter o sets′) e,
+      (
+        c ∙ ap (λ (o : Reading). codesAfter o codes′) e,
+        (
+          lens-are ∙ ap (λ (o : Reading). lensAfter o lens′) e,
+          turns-are ∙ ap (λ (o : Reading). turnsAfter o turns′) e,
+        ),
+      ),
+    ),
+  )
 
 -- a plan that is refused: the answer, and every buffer as it was
 pub refused-out : (out : Reading) (fault : Fault) (place : ℕ) → refused fault place ≡ out → (sets codes lens turns : List ℕ)
     → (refusal (numberOf fault) place ≡ toldOf out)
-      × ((sets ≡ setsAfter out sets) × ((codes ≡ codesAfter out codes) × ((lens ≡ lensAfter out lens) × (turns ≡ turnsAfter out turns))))
-refused-out out fault place e sets codes lens turns =
-    ( ap toldOf e
-    , ( ap (λ (o : Reading). setsAfter o sets) e
-      , ( ap (λ (o : Reading). codesAfter o codes) e
-        , ( ap (λ (o : Reading). lensAfter o lens) e
-          , ap (λ (o : Reading). turnsAfter o turns) e))))
+    × ((sets ≡ setsAfter out sets) × ((codes ≡ codesAfter out codes) × ((lens ≡ lensAfter out lens) × (turns ≡ turnsAfter out turns))))
+refused-out out fault place e sets codes lens turns = (
+  ap toldOf e,
+  (
+    ap (λ (o : Reading). setsAfter o sets) e,
+    (
+      ap (λ (o : Reading). codesAfter o codes) e,
+      (
+        ap (λ (o : Reading). lensAfter o lens) e,
+        ap (λ (o : Reading). turnsAfter o turns) e,
+      ),
+    ),
+  ),
+)
 
 -- ---- a result of a known kind
 

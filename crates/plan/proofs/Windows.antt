@@ -61,18 +61,18 @@ fields-step text at end e h inside e-is =
     let here : cond (leb at end) (fieldsOf w) [] ≡ fieldsOf w = ap (λ (t : Bool). cond t (fieldsOf w) []) (le-leb at end h) in
     ⊎-elim
     (λ (last : k ≡ length w).
-      let past : cond (leb (e + 1) end) (fieldsOf (part text (e + 1) end)) [] ≡ [] = ap (λ (t : Bool). cond t (fieldsOf (part text (e + 1) end)) []) (lt-leb (e + 1) end (omega arith)) in
-      let is-end : end ≡ e = omega arith in
-      let all-of : w ≡ part text at e = ap (part text at) is-end in
-      here ∙ fields-whole w last ∙ ap (λ (l : List ℕ). l ∷ []) all-of ∙ ap (λ (ps : List (List ℕ)). part text at e ∷ ps) (sym past))
+    let past : cond (leb (e + 1) end) (fieldsOf (part text (e + 1) end)) [] ≡ [] = ap (λ (t : Bool). cond t (fieldsOf (part text (e + 1) end)) []) (lt-leb (e + 1) end (omega arith)) in
+    let is-end : end ≡ e = omega arith in
+    let all-of : w ≡ part text at e = ap (part text at) is-end in
+    here ∙ fields-whole w last ∙ ap (λ (l : List ℕ). l ∷ []) all-of ∙ ap (λ (ps : List (List ℕ)). part text at e ∷ ps) (sym past))
     (λ (more : k < length w).
-      let next : cond (leb (e + 1) end) (fieldsOf (part text (e + 1) end)) [] ≡ fieldsOf (part text (e + 1) end) = ap (λ (t : Bool). cond t (fieldsOf (part text (e + 1) end)) []) (le-leb (e + 1) end (omega arith)) in
-      let at-tab : getD w k 0 ≡ tab = eqb-true (getD w k 0) tab (not-false (eqb (getD w k 0) tab) (run-fails noTab w more)) in
-      here
-      ∙ cut tab noTab refl ([] ∷ []) w more at-tab
-      ∙ ap (λ (l : List ℕ). l ∷ fieldsOf (drop (suc k) w)) front
-      ∙ ap (λ (l : List ℕ). part text at e ∷ fieldsOf l) behind
-      ∙ ap (λ (ps : List (List ℕ)). part text at e ∷ ps) (sym next))
+    let next : cond (leb (e + 1) end) (fieldsOf (part text (e + 1) end)) [] ≡ fieldsOf (part text (e + 1) end) = ap (λ (t : Bool). cond t (fieldsOf (part text (e + 1) end)) []) (le-leb (e + 1) end (omega arith)) in
+    let at-tab : getD w k 0 ≡ tab = eqb-true (getD w k 0) tab (not-false (eqb (getD w k 0) tab) (run-fails noTab w more)) in
+    here
+    ∙ cut tab noTab refl ([] ∷ []) w more at-tab
+    ∙ ap (λ (l : List ℕ). l ∷ fieldsOf (drop (suc k) w)) front
+    ∙ ap (λ (l : List ℕ). part text at e ∷ fieldsOf l) behind
+    ∙ ap (λ (ps : List (List ℕ)). part text at e ∷ ps) (sym next))
     (eq-or-lt-of-le most)
 
 -- ---- lines
@@ -103,16 +103,16 @@ module _ (text : List ℕ) (at end : ℕ) (end-is : end ≡ at + run fine (drop 
       let next : at + suc k ≡ end + 1 = omega arith in
       ⊎-elim
       (λ (last : k ≡ length w).
-        let none : linesOf (drop (end + 1) text) ≡ [] = ap (λ (l : List ℕ). linesOf l) (drop-of-length-le text {i = end + 1} (omega arith)) in
-        lines-whole w (omega arith) last
-        ∙ ap (λ (l : List ℕ). l ∷ []) (sym (take-all k w (omega arith)) ∙ front)
-        ∙ ap (λ (ls : List (List ℕ)). part text at end ∷ ls) (sym none))
+      let none : linesOf (drop (end + 1) text) ≡ [] = ap (λ (l : List ℕ). linesOf l) (drop-of-length-le text {i = end + 1} (omega arith)) in
+      lines-whole w (omega arith) last
+      ∙ ap (λ (l : List ℕ). l ∷ []) (sym (take-all k w (omega arith)) ∙ front)
+      ∙ ap (λ (ls : List (List ℕ)). part text at end ∷ ls) (sym none))
       (λ (more : k < length w).
-        let p : getD w k 0 ≡ getD text (at + k) 0 = getD-drop at text k 0 in
-        let q : getD text (at + k) 0 ≡ LF = rw (← end-is) (at-LF (omega arith)) in
-        cut LF fine refl [] w more (p ∙ q)
-        ∙ ap (λ (l : List ℕ). l ∷ linesOf (drop (suc k) w)) front
-        ∙ ap (λ (l : List ℕ). part text at end ∷ linesOf l) (drop-drop (suc k) at text ∙ ap (λ (m : ℕ). drop m text) next))
+      let p : getD w k 0 ≡ getD text (at + k) 0 = getD-drop at text k 0 in
+      let q : getD text (at + k) 0 ≡ LF = rw (← end-is) (at-LF (omega arith)) in
+      cut LF fine refl [] w more (p ∙ q)
+      ∙ ap (λ (l : List ℕ). l ∷ linesOf (drop (suc k) w)) front
+      ∙ ap (λ (l : List ℕ). part text at end ∷ linesOf l) (drop-drop (suc k) at text ∙ ap (λ (m : ℕ). drop m text) next))
       (eq-or-lt-of-le most)
 
   pub line-fine : all fine (part text at end) ≡ true

@@ -20,7 +20,13 @@ fn put_code(text: &[u8], from: usize, len: usize, at: usize, cells: &mut [u8; 76
 }
 
 // The codes of the table, in their order.
-pub fn put_codes(text: &[u8], starts: &[usize; 64], lens: &[usize; 64], count: usize, cells: &mut [u8; 768])
+pub fn put_codes(
+    text: &[u8],
+    starts: &[usize; 64],
+    lens: &[usize; 64],
+    count: usize,
+    cells: &mut [u8; 768],
+)
     requires { ⌜ CellsAt (now text) (now starts) (now lens) count (now cells) ⌝ }
     ensures { λ _. ⌜ now (cells .exit) ≡ padded (mostStocks * mostCode) (cellsOf (codesIn (now (text .entry)) (now (starts .entry)) (now (lens .entry)) count)) ⌝ }
 {

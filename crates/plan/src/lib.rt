@@ -66,19 +66,13 @@ enum Line {
     Refused(Fault),
 }
 
-mod scan;
-
-mod number;
-
-mod code;
-
-mod turns;
-
-mod stocks;
-
-mod lines;
-
 mod cells;
+mod code;
+mod lines;
+mod number;
+mod scan;
+mod stocks;
+mod turns;
 
 // The number of a refusal in document 01's table.
 pub fn number_of(fault: Fault) -> u8
@@ -100,7 +94,13 @@ pub fn number_of(fault: Fault) -> u8
 // Reads the plan. A plan that is taken is handed out whole: the input set of each station, bit b for stock b; the codes, in cells of
 // 12 bytes, and their lengths; the turns. Of a plan that is refused nothing is handed out. It is read into arrays of its own, and
 // these are copied out at the end.
-pub fn read_plan(text: &[u8], sets: &mut [u64; 16], codes: &mut [u8; 768], lens: &mut [usize; 64], turns: &mut [u8; 4096]) -> Answer
+pub fn read_plan(
+    text: &[u8],
+    sets: &mut [u64; 16],
+    codes: &mut [u8; 768],
+    lens: &mut [usize; 64],
+    turns: &mut [u8; 4096],
+) -> Answer
     ensures answer { λ r. ⌜ told r ≡ toldOf (reading (now (text .entry))) ⌝ }
     ensures sets { λ _. ⌜ now (sets .exit) ≡ setsAfter (reading (now (text .entry))) (now (sets .entry)) ⌝ }
     ensures codes { λ _. ⌜ now (codes .exit) ≡ codesAfter (reading (now (text .entry))) (now (codes .entry)) ⌝ }
@@ -108,7 +108,10 @@ pub fn read_plan(text: &[u8], sets: &mut [u64; 16], codes: &mut [u8; 768], lens:
     ensures turns { λ _. ⌜ now (turns .exit) ≡ turnsAfter (reading (now (text .entry))) (now (turns .entry)) ⌝ }
 {
     if text.len() > 32768 {
-        return Answer::Refused { fault: Fault::LongText, place: 0 };
+        return Answer::Refused {
+            fault: Fault::LongText,
+            place: 0,
+        };
     }
     let mut own_sets = [0u64; 16];
     let mut own_starts = [0usize; 64];
@@ -116,15 +119,30 @@ pub fn read_plan(text: &[u8], sets: &mut [u64; 16], codes: &mut [u8; 768], lens:
     let mut own_keys = [0u64; 64];
     let mut own_turns = [0u8; 4096];
     let mut cells = [0u8; 768];
-    let r = all_lines(text, &mut own_sets, &mut own_starts, &mut own_lens, &mut own_keys, &mut own_turns);
+    let r = all_lines(
+        text,
+        &mut own_sets,
+        &mut own_starts,
+        &mut own_lens,
+        &mut own_keys,
+        &mut own_turns,
+    );
     match r {
-        Answer::Plan { stations: n, stocks: s, turns: t } => {
+        Answer::Plan {
+            stations: n,
+            stocks: s,
+            turns: t,
+        } => {
             put_codes(text, &own_starts, &own_lens, s, &mut cells);
             *sets = own_sets;
             *codes = cells;
             *lens = own_lens;
             *turns = own_turns;
-            Answer::Plan { stations: n, stocks: s, turns: t }
+            Answer::Plan {
+                stations: n,
+                stocks: s,
+                turns: t,
+            }
         }
         Answer::Refused { fault: f, place: p } => Answer::Refused { fault: f, place: p },
     }

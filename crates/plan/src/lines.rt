@@ -63,7 +63,19 @@ fn gang(text: &[u8], end: usize) -> u8
 }
 
 // A line from `at` to `end` behind the first, in which no byte strays.
-fn later_line(text: &[u8], at: usize, end: usize, n: u8, stocks: usize, turned: usize, sets: &mut [u64; 16], starts: &mut [usize; 64], lens: &mut [usize; 64], keys: &mut [u64; 64], turns: &mut [u8; 4096]) -> Line
+fn later_line(
+    text: &[u8],
+    at: usize,
+    end: usize,
+    n: u8,
+    stocks: usize,
+    turned: usize,
+    sets: &mut [u64; 16],
+    starts: &mut [usize; 64],
+    lens: &mut [usize; 64],
+    keys: &mut [u64; 64],
+    turns: &mut [u8; 4096],
+) -> Line
     requires { ⌜ LineAt (now text) at end n (hand (now sets) (now starts) (now lens) (now keys) (now turns)) stocks turned ⌝ }
     ensures { λ r. ⌜ LineRead r (now (text .entry)) n (hand (now (sets .exit)) (now (starts .exit)) (now (lens .exit)) (now (keys .exit)) (now (turns .exit))) (laterFields (heldOf (now (text .entry)) n (hand (now (sets .entry)) (now (starts .entry)) (now (lens .entry)) (now (keys .entry)) (now (turns .entry))) stocks turned) (fieldsFrom (now (text .entry)) at end)) ⌝ }
 {
@@ -73,14 +85,20 @@ fn later_line(text: &[u8], at: usize, end: usize, n: u8, stocks: usize, turned: 
         Word::Has => {
             let r = has_line(text, e + 1, end, n, stocks, sets, starts, lens, keys);
             match r {
-                Counted::Count(k) => Line::More { stocks: k, turns: turned },
+                Counted::Count(k) => Line::More {
+                    stocks: k,
+                    turns: turned,
+                },
                 Counted::Refused(fault) => Line::Refused(fault),
             }
         }
         Word::Turn => {
             let r = turn_line(text, e + 1, end, n, turned, turns);
             match r {
-                Counted::Count(k) => Line::More { stocks: stocks, turns: k },
+                Counted::Count(k) => Line::More {
+                    stocks: stocks,
+                    turns: k,
+                },
                 Counted::Refused(fault) => Line::Refused(fault),
             }
         }
@@ -89,7 +107,16 @@ fn later_line(text: &[u8], at: usize, end: usize, n: u8, stocks: usize, turned: 
 }
 
 // The lines from `from` on, of which the first is line 2.
-fn later_lines(text: &[u8], from: usize, n: u8, sets: &mut [u64; 16], starts: &mut [usize; 64], lens: &mut [usize; 64], keys: &mut [u64; 64], turns: &mut [u8; 4096]) -> Answer
+fn later_lines(
+    text: &[u8],
+    from: usize,
+    n: u8,
+    sets: &mut [u64; 16],
+    starts: &mut [usize; 64],
+    lens: &mut [usize; 64],
+    keys: &mut [u64; 64],
+    turns: &mut [u8; 4096],
+) -> Answer
     requires { ⌜ PlanIn (now text) n (hand (now sets) (now starts) (now lens) (now keys) (now turns)) 0 0 ⌝ }
     ensures { λ r. ⌜ PlanRead r (now (text .entry)) (hand (now (sets .exit)) (now (starts .exit)) (now (lens .exit)) (now (keys .exit)) (now (turns .exit))) (laterLines 2 (heldOf (now (text .entry)) n (hand (now (sets .entry)) (now (starts .entry)) (now (lens .entry)) (now (keys .entry)) (now (turns .entry))) 0 0) (linesOf (drop from (now (text .entry))))) ⌝ }
 {
@@ -100,37 +127,75 @@ fn later_lines(text: &[u8], from: usize, n: u8, sets: &mut [u64; 16], starts: &m
     while i < text.len() {
         let end = line_end(text, i);
         if strays(text, end) {
-            return Answer::Refused { fault: Fault::StrayByte, place: line };
+            return Answer::Refused {
+                fault: Fault::StrayByte,
+                place: line,
+            };
         }
-        let r = later_line(text, i, end, n, stocks, turned, sets, starts, lens, keys, turns);
+        let r = later_line(
+            text,
+            i,
+            end,
+            n,
+            stocks,
+            turned,
+            sets,
+            starts,
+            lens,
+            keys,
+            turns,
+        );
         let here = line;
         i = end + 1;
         line = here + 1;
         match r {
-            Line::More { stocks: s, turns: t } => {
+            Line::More {
+                stocks: s,
+                turns: t,
+            } => {
                 stocks = s;
                 turned = t;
             }
             Line::Refused(fault) => {
-                return Answer::Refused { fault: fault, place: here };
+                return Answer::Refused {
+                    fault: fault,
+                    place: here,
+                };
             }
         }
     }
-    Answer::Plan { stations: n, stocks: stocks, turns: turned }
+    Answer::Plan {
+        stations: n,
+        stocks: stocks,
+        turns: turned,
+    }
 }
 
 // All lines, into buffers that hold nothing yet.
-pub fn all_lines(text: &[u8], sets: &mut [u64; 16], starts: &mut [usize; 64], lens: &mut [usize; 64], keys: &mut [u64; 64], turns: &mut [u8; 4096]) -> Answer
+pub fn all_lines(
+    text: &[u8],
+    sets: &mut [u64; 16],
+    starts: &mut [usize; 64],
+    lens: &mut [usize; 64],
+    keys: &mut [u64; 64],
+    turns: &mut [u8; 4096],
+) -> Answer
     requires { ⌜ Clear (now text) (hand (now sets) (now starts) (now lens) (now keys) (now turns)) ⌝ }
     ensures { λ r. ⌜ PlanRead r (now (text .entry)) (hand (now (sets .exit)) (now (starts .exit)) (now (lens .exit)) (now (keys .exit)) (now (turns .exit))) (allLines (linesOf (now (text .entry)))) ⌝ }
 {
     let end = line_end(text, 0);
     if strays(text, end) {
-        return Answer::Refused { fault: Fault::StrayByte, place: 1 };
+        return Answer::Refused {
+            fault: Fault::StrayByte,
+            place: 1,
+        };
     }
     let n = gang(text, end);
     if n == 0 {
-        return Answer::Refused { fault: Fault::NoGang, place: 1 };
+        return Answer::Refused {
+            fault: Fault::NoGang,
+            place: 1,
+        };
     }
     later_lines(text, end + 1, n, sets, starts, lens, keys, turns)
 }

@@ -25,7 +25,16 @@ fn with_stock(set: u64, k: usize) -> u64
 }
 
 // Whether the code from `at` to `end` is stock j. Where the keys differ the bytes do.
-fn is_stock(text: &[u8], at: usize, end: usize, key: u64, j: usize, starts: &[usize; 64], lens: &[usize; 64], keys: &[u64; 64]) -> bool
+fn is_stock(
+    text: &[u8],
+    at: usize,
+    end: usize,
+    key: u64,
+    j: usize,
+    starts: &[usize; 64],
+    lens: &[usize; 64],
+    keys: &[u64; 64],
+) -> bool
     requires { ⌜ Beside (now text) at end key (now starts) (now lens) (now keys) j ⌝ }
     ensures { λ r. ⌜ r ≡ Text.same (part (now (text .entry)) at end) (codeAt (now (text .entry)) (now (starts .entry)) (now (lens .entry)) j) ⌝ }
 {
@@ -38,7 +47,16 @@ fn is_stock(text: &[u8], at: usize, end: usize, key: u64, j: usize, starts: &[us
 }
 
 // The number of the code among the stocks so far, or their count where it is a new one.
-fn stock_of(text: &[u8], at: usize, end: usize, key: u64, count: usize, starts: &[usize; 64], lens: &[usize; 64], keys: &[u64; 64]) -> usize
+fn stock_of(
+    text: &[u8],
+    at: usize,
+    end: usize,
+    key: u64,
+    count: usize,
+    starts: &[usize; 64],
+    lens: &[usize; 64],
+    keys: &[u64; 64],
+) -> usize
     requires { ⌜ Known (now text) at end key (now starts) (now lens) (now keys) count ⌝ }
     ensures { λ r. ⌜ r ≡ stockOf (part (now (text .entry)) at end) (codesIn (now (text .entry)) (now (starts .entry)) (now (lens .entry)) count) ⌝ }
 {
@@ -53,7 +71,16 @@ fn stock_of(text: &[u8], at: usize, end: usize, key: u64, count: usize, starts: 
 }
 
 // The code from `at` to `end` goes into the set, and is a new stock if it is not known.
-fn add_stock(text: &[u8], at: usize, end: usize, count: usize, set: u64, starts: &mut [usize; 64], lens: &mut [usize; 64], keys: &mut [u64; 64]) -> Coded
+fn add_stock(
+    text: &[u8],
+    at: usize,
+    end: usize,
+    count: usize,
+    set: u64,
+    starts: &mut [usize; 64],
+    lens: &mut [usize; 64],
+    keys: &mut [u64; 64],
+) -> Coded
     requires { ⌜ Listed (now text) at end (now starts) (now lens) (now keys) count ⌝ }
     requires { ⌜ end ≤ at + 12 ⌝ }
     ensures { λ r. ⌜ CodedRead r (now (text .entry)) (now (starts .exit)) (now (lens .exit)) (now (keys .exit)) (addStock (holding (codesIn (now (text .entry)) (now (starts .entry)) (now (lens .entry)) count) set) (part (now (text .entry)) at end)) ⌝ }
@@ -79,7 +106,16 @@ fn add_stock(text: &[u8], at: usize, end: usize, count: usize, set: u64, starts:
 }
 
 // The field from `at` to `end` is a code, and goes into the set.
-fn take_code(text: &[u8], at: usize, end: usize, count: usize, set: u64, starts: &mut [usize; 64], lens: &mut [usize; 64], keys: &mut [u64; 64]) -> Coded
+fn take_code(
+    text: &[u8],
+    at: usize,
+    end: usize,
+    count: usize,
+    set: u64,
+    starts: &mut [usize; 64],
+    lens: &mut [usize; 64],
+    keys: &mut [u64; 64],
+) -> Coded
     requires { ⌜ Listed (now text) at end (now starts) (now lens) (now keys) count ⌝ }
     ensures { λ r. ⌜ CodedRead r (now (text .entry)) (now (starts .exit)) (now (lens .exit)) (now (keys .exit)) (takeCode (holding (codesIn (now (text .entry)) (now (starts .entry)) (now (lens .entry)) count) set) (part (now (text .entry)) at end)) ⌝ }
 {
@@ -94,7 +130,16 @@ fn take_code(text: &[u8], at: usize, end: usize, count: usize, set: u64, starts:
 }
 
 // The fields from `at` to the line's end, each a code.
-fn codes_from(text: &[u8], at: usize, end: usize, count: usize, set: u64, starts: &mut [usize; 64], lens: &mut [usize; 64], keys: &mut [u64; 64]) -> Coded
+fn codes_from(
+    text: &[u8],
+    at: usize,
+    end: usize,
+    count: usize,
+    set: u64,
+    starts: &mut [usize; 64],
+    lens: &mut [usize; 64],
+    keys: &mut [u64; 64],
+) -> Coded
     requires { ⌜ CodesAt (now text) end (now starts) (now lens) (now keys) count ⌝ }
     ensures { λ r. ⌜ CodedRead r (now (text .entry)) (now (starts .exit)) (now (lens .exit)) (now (keys .exit)) (each takeCode (holding (codesIn (now (text .entry)) (now (starts .entry)) (now (lens .entry)) count) set) (fieldsFrom (now (text .entry)) at end)) ⌝ }
 {
@@ -106,7 +151,10 @@ fn codes_from(text: &[u8], at: usize, end: usize, count: usize, set: u64, starts
         let r = take_code(text, i, e, k, s, starts, lens, keys);
         i = e + 1;
         match r {
-            Coded::Stocks { count: more, set: wider } => {
+            Coded::Stocks {
+                count: more,
+                set: wider,
+            } => {
                 k = more;
                 s = wider;
             }
@@ -119,7 +167,17 @@ fn codes_from(text: &[u8], at: usize, end: usize, count: usize, set: u64, starts
 }
 
 // The fields of a `HAS` line behind its word.
-pub fn has_line(text: &[u8], at: usize, end: usize, n: u8, count: usize, sets: &mut [u64; 16], starts: &mut [usize; 64], lens: &mut [usize; 64], keys: &mut [u64; 64]) -> Counted
+pub fn has_line(
+    text: &[u8],
+    at: usize,
+    end: usize,
+    n: u8,
+    count: usize,
+    sets: &mut [u64; 16],
+    starts: &mut [usize; 64],
+    lens: &mut [usize; 64],
+    keys: &mut [u64; 64],
+) -> Counted
     requires { ⌜ HasAt (now text) end n (now sets) (now starts) (now lens) (now keys) count ⌝ }
     ensures { λ r. ⌜ StockedRead r (now (text .entry)) (now (sets .exit)) (now (starts .exit)) (now (lens .exit)) (now (keys .exit)) (hasLine n (stocked (codesIn (now (text .entry)) (now (starts .entry)) (now (lens .entry)) count) (now (sets .entry))) (fieldsFrom (now (text .entry)) at end)) ⌝ }
 {
@@ -138,7 +196,10 @@ pub fn has_line(text: &[u8], at: usize, end: usize, n: u8, count: usize, sets: &
     let set = sets[i];
     let r = codes_from(text, e + 1, end, count, set, starts, lens, keys);
     match r {
-        Coded::Stocks { count: more, set: wider } => {
+        Coded::Stocks {
+            count: more,
+            set: wider,
+        } => {
             sets[i] = wider;
             Counted::Count(more)
         }

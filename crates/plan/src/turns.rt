@@ -10,7 +10,14 @@ use super::number::number;
 use super::scan::field_end;
 
 // The fields from `at` to the line's end, each put at the end of the turns.
-fn turns_from(text: &[u8], at: usize, end: usize, n: u8, count: usize, turns: &mut [u8; 4096]) -> Counted
+fn turns_from(
+    text: &[u8],
+    at: usize,
+    end: usize,
+    n: u8,
+    count: usize,
+    turns: &mut [u8; 4096],
+) -> Counted
     requires { ⌜ TurnsAt (now text) end count (now turns) ⌝ }
     ensures { λ r. ⌜ TurnsRead r (now (turns .exit)) (each (takeTurn n) (take count (now (turns .entry))) (fieldsFrom (now (text .entry)) at end)) ⌝ }
 {
@@ -33,7 +40,14 @@ fn turns_from(text: &[u8], at: usize, end: usize, n: u8, count: usize, turns: &m
 }
 
 // The fields of a `TURN` line behind its word.
-pub fn turn_line(text: &[u8], at: usize, end: usize, n: u8, count: usize, turns: &mut [u8; 4096]) -> Counted
+pub fn turn_line(
+    text: &[u8],
+    at: usize,
+    end: usize,
+    n: u8,
+    count: usize,
+    turns: &mut [u8; 4096],
+) -> Counted
     requires { ⌜ TurnsAt (now text) end count (now turns) ⌝ }
     ensures { λ r. ⌜ TurnsRead r (now (turns .exit)) (turnLine n (take count (now (turns .entry))) (fieldsFrom (now (text .entry)) at end)) ⌝ }
 {

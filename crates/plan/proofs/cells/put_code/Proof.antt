@@ -45,10 +45,11 @@ loop-again : tie.Need-loop-again Inv-loop μ-loop
 loop-again c =
     let g = c .before .before .before in
     let a = g .args in
-    let l = c .before .before .loop in
-    ( omega arith
-    , ap (λ (x : List ℕ). set x (a .at + l .i) (getD (a .text .now) (a .from + l .i) 0)) (l .inv .1)
-      ∙ byte-more (a .text .now) (a .from) (a .len) (a .at) (a .cells .now) (l .i) (g .pre) (c .before .loop-test .taken))
+    let l = c .before .before .loop in (
+      omega arith,
+      ap (λ (x : List ℕ). set x (a .at + l .i) (getD (a .text .now) (a .from + l .i) 0)) (l .inv .1)
+          ∙ byte-more (a .text .now) (a .from) (a .len) (a .at) (a .cells .now) (l .i) (g .pre) (c .before .loop-test .taken),
+    )
 
 returns : tie.Need-returns Inv-loop μ-loop
 returns c =

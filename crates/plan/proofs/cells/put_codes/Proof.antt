@@ -49,11 +49,11 @@ put-code-requires c κs =
     let l = c .before .before .before .before .loop in
     let here = c .before .before .before .loop-test .taken in
     let long : length (l .cells) ≡ mostStocks * mostCode =
-        ap length (l .inv .1) ∙ cells-there (a .text .now) (a .starts .now) (a .lens .now) (a .count) (a .cells .now) (g .pre) (l .k) (l .inv .0) in
-    record
-    { ends = g .pre .ends (l .k) here
-    ; room = omega (arith, long, g .pre .short (l .k) here, g .pre .most, here)
-    ; long = long
+    ap length (l .inv .1) ∙ cells-there (a .text .now) (a .starts .now) (a .lens .now) (a .count) (a .cells .now) (g .pre) (l .k) (l .inv .0) in
+    record {
+      ends = g .pre .ends (l .k) here;
+      room = omega (arith, long, g .pre .short (l .k) here, g .pre .most, here);
+      long = long;
     }
 
 add-k : tie.Need-add-k Inv-loop μ-loop
@@ -67,11 +67,12 @@ loop-again c =
     let g = c .before .before .before .before .before .before .before in
     let a = g .args in
     let l = c .before .before .before .before .before .loop in
-    let here = c .before .before .before .before .loop-test .taken in
-    ( omega arith
-    , c .put-code .ensures
-      ∙ ap (λ (x : List ℕ). paste x (l .k * 12) (codeAt (a .text .now) (a .starts .now) (a .lens .now) (l .k)) (getD (a .lens .now) (l .k) 0)) (l .inv .1)
-      ∙ code-more (a .text .now) (a .starts .now) (a .lens .now) (a .count) (a .cells .now) (g .pre) (l .k) (l .k * 12) here refl)
+    let here = c .before .before .before .before .loop-test .taken in (
+      omega arith,
+      c .put-code .ensures
+          ∙ ap (λ (x : List ℕ). paste x (l .k * 12) (codeAt (a .text .now) (a .starts .now) (a .lens .now) (l .k)) (getD (a .lens .now) (l .k) 0)) (l .inv .1)
+          ∙ code-more (a .text .now) (a .starts .now) (a .lens .now) (a .count) (a .cells .now) (g .pre) (l .k) (l .k * 12) here refl,
+    )
 
 returns : tie.Need-returns Inv-loop μ-loop
 returns c =

@@ -42,11 +42,11 @@ gang-requires c κs =
 returns-2 : tie.Need-returns-2
 returns-2 c =
     let f = c .before .before .before .before .line-end in
-    record
-    { gives =
-        no-gang (c .before .before .before .before .before .before .args .text .now) (f .result) (f .ensures) (sym (c .before .before .before .strays .ensures) ∙ c .before .before .if1 .left)
-        (sym (c .before .gang .ensures) ∙ c .if2 .taken)
-    ; kept = tt
+    record {
+      gives =
+          no-gang (c .before .before .before .before .before .before .args .text .now) (f .result) (f .ensures) (sym (c .before .before .before .strays .ensures) ∙ c .before .before .if1 .left)
+          (sym (c .before .gang .ensures) ∙ c .if2 .taken);
+      kept = tt;
     }
 
 add-later-lines : tie.Need-add-later-lines
@@ -60,11 +60,11 @@ later-lines-requires c κs =
     let g = c .before .before .before .before .before .before .before .before .before .before .before in
     let n = c .before .before .before .before .before .before .gang in
     let f = c .before .before .before .before .before .before .before .before .before .line-end in
-    record
-    { stations = omega (arith, n .ensures, gang-most (fieldsFrom (g .args .text .now) 0 (f .result)))
-    ; sets-long = ap length (g .pre .sets) ∙ length-replicate {A = ℕ} 16 0
-    ; table = g .pre .table
-    ; turns = g .pre .turns
+    record {
+      stations = omega (arith, n .ensures, gang-most (fieldsFrom (g .args .text .now) 0 (f .result)));
+      sets-long = ap length (g .pre .sets) ∙ length-replicate {A = ℕ} 16 0;
+      table = g .pre .table;
+      turns = g .pre .turns;
     }
 
 returns-3 : tie.Need-returns-3
@@ -75,12 +75,12 @@ returns-3 c =
     let n = c .before .before .before .before .before .before .before .gang in
     let f = c .before .before .before .before .before .before .before .before .before .before .line-end in
     let t = c .later-lines .ensures in
-    record
-    { gives =
-        t .gives
-        ∙ ap (λ (ss : List ℕ). laterLines 2 (held (n .result) (stocked [] ss) []) (linesOf (drop (f .result + 1) text))) (g .pre .sets)
-        ∙ gang-there text (f .result) (f .ensures) (sym (c .before .before .before .before .before .before .before .before .before .strays .ensures) ∙ c .before .before .before .before .before .before .before .before .if1 .left) (n .result) (n .ensures) (c .before .before .before .before .before .before .if2 .left)
-    ; kept = t .kept
+    record {
+      gives =
+          t .gives
+          ∙ ap (λ (ss : List ℕ). laterLines 2 (held (n .result) (stocked [] ss) []) (linesOf (drop (f .result + 1) text))) (g .pre .sets)
+          ∙ gang-there text (f .result) (f .ensures) (sym (c .before .before .before .before .before .before .before .before .before .strays .ensures) ∙ c .before .before .before .before .before .before .before .before .if1 .left) (n .result) (n .ensures) (c .before .before .before .before .before .before .if2 .left);
+      kept = t .kept;
     }
 
 pub all-lines-spec : {M : Type 1} → statement M

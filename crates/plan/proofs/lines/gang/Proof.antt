@@ -86,7 +86,7 @@ returns-3 c =
     let s = c .before .before .before .field-end2 in
     c .number .ensures
     ∙ gang-is (g .args .text .now) (g .args .end) (g .pre) (f .result) (f .ensures) (c .before .before .before .before .before .before .before .before .before .if1 .left) (s .result) (s .ensures) (c .before .before .if3 .left)
-      (sym (c .before .before .before .before .before .before .same .ensures) ∙ c .before .before .before .before .before .if2 .taken)
+    (sym (c .before .before .before .before .before .before .same .ensures) ∙ c .before .before .before .before .before .if2 .taken)
 
 returns-4 : tie.Need-returns-4
 returns-4 c =

@@ -22,8 +22,8 @@ use Rattle.plan.proofs.scan.line_end.Reads as line-end-reads
 abbrev Inv-loop : tie.InvT-loop
 Inv-loop text from n sets₀ starts₀ lens₀ keys₀ turns₀ i₀ line₀ stocks₀ turned₀ sets starts lens keys turns i line stocks turned =
     PlanIn text n (hand sets starts lens keys turns) stocks turned
-    × ( laterLines 2 (heldOf text n (hand sets₀ starts₀ lens₀ keys₀ turns₀) 0 0) (linesOf (drop from text))
-        ≡ laterLines line (heldOf text n (hand sets starts lens keys turns) stocks turned) (linesOf (drop i text)))
+    × (laterLines 2 (heldOf text n (hand sets₀ starts₀ lens₀ keys₀ turns₀) 0 0) (linesOf (drop from text))
+    ≡ laterLines line (heldOf text n (hand sets starts lens keys turns) stocks turned) (linesOf (drop i text)))
     × (line ≤ i + 2)
 
 abbrev μ-loop : tie.MeasureT-loop
@@ -43,11 +43,11 @@ returns c =
     let a = c .before .before .before .before .before .before .args in
     let l = c .before .before .before .before .loop in
     let f = c .before .before .line-end in
-    record
-    { gives =
-        line-strayed (a .text .now) _ (l .line) (heldOf (a .text .now) (a .n) (hand (l .sets) (l .starts) (l .lens) (l .keys) (l .turns)) (l .stocks) (l .turned)) (l .i) (l .inv .1)
-        (c .before .before .before .loop-test .taken) (f .result) (f .ensures) (sym (c .before .strays .ensures) ∙ c .if1 .taken)
-    ; kept = tt
+    record {
+      gives =
+          line-strayed (a .text .now) _ (l .line) (heldOf (a .text .now) (a .n) (hand (l .sets) (l .starts) (l .lens) (l .keys) (l .turns)) (l .stocks) (l .turned)) (l .i) (l .inv .1)
+          (c .before .before .before .loop-test .taken) (f .result) (f .ensures) (sym (c .before .strays .ensures) ∙ c .if1 .taken);
+      kept = tt;
     }
 
 -- where the line ends
@@ -57,10 +57,10 @@ ended c = line-most (c .before .before .before .before .args .text .now) (c .bef
 later-line-requires : tie.Need-later-line-requires Inv-loop μ-loop
 later-line-requires c κs =
     let f = c .before .before .before .before .before .before .before in
-    record
-    { starts-at = omega (arith, f .line-end .ensures)
-    ; ends = ended f
-    ; plan = f .before .before .loop .inv .0
+    record {
+      starts-at = omega (arith, f .line-end .ensures);
+      ends = ended f;
+      plan = f .before .before .loop .inv .0;
     }
 
 add-i : tie.Need-add-i Inv-loop μ-loop
@@ -81,12 +81,13 @@ loop-again c =
     let l = c .before .before .before .before .before .before .before .before .before .before .before .before .before .loop in
     let f = c .before .before .before .before .before .before .before .before .before .before .before .line-end in
     let t = c .before .before .before .later-line in
-    let r = c .before .r .given in
-    ( more-kept (t .ensures) (r .0 .0) (r .0 .1 .0) (r .1)
-    , line-taken (a .text .now) _ (l .line) (heldOf (a .text .now) (a .n) (hand (l .sets) (l .starts) (l .lens) (l .keys) (l .turns)) (l .stocks) (l .turned)) (l .i) (l .inv .1)
-      (c .before .before .before .before .before .before .before .before .before .before .before .before .loop-test .taken) (f .result) (f .ensures) (sym (c .before .before .before .before .before .before .before .before .before .before .strays .ensures) ∙ c .before .before .before .before .before .before .before .before .before .if1 .left)
-      _ (more-gives (t .ensures) (r .0 .0) (r .0 .1 .0) (r .1))
-    , omega (arith, f .ensures, l .inv .2))
+    let r = c .before .r .given in (
+      more-kept (t .ensures) (r .0 .0) (r .0 .1 .0) (r .1),
+      line-taken (a .text .now) _ (l .line) (heldOf (a .text .now) (a .n) (hand (l .sets) (l .starts) (l .lens) (l .keys) (l .turns)) (l .stocks) (l .turned)) (l .i) (l .inv .1)
+          (c .before .before .before .before .before .before .before .before .before .before .before .before .loop-test .taken) (f .result) (f .ensures) (sym (c .before .before .before .before .before .before .before .before .before .before .strays .ensures) ∙ c .before .before .before .before .before .before .before .before .before .if1 .left)
+          _ (more-gives (t .ensures) (r .0 .0) (r .0 .1 .0) (r .1)),
+      omega (arith, f .ensures, l .inv .2),
+    )
 
 enum-known-r-2 : tie.Need-enum-known-r-2 Inv-loop μ-loop
 enum-known-r-2 c = search needs
@@ -98,21 +99,21 @@ returns-2 c =
     let f = c .before .before .before .before .before .before .before .before .before .before .before .line-end in
     let t = c .before .before .before .later-line in
     let r = c .before .r2 .given in
-    record
-    { gives =
-        line-refused (a .text .now) _ (l .line) (heldOf (a .text .now) (a .n) (hand (l .sets) (l .starts) (l .lens) (l .keys) (l .turns)) (l .stocks) (l .turned)) (l .i) (l .inv .1)
-        (c .before .before .before .before .before .before .before .before .before .before .before .before .loop-test .taken) (f .result) (f .ensures) (sym (c .before .before .before .before .before .before .before .before .before .before .strays .ensures) ∙ c .before .before .before .before .before .before .before .before .before .if1 .left)
-        (r .0 .0) (bad-gives (t .ensures) (r .0 .0) (r .1))
-    ; kept = tt
+    record {
+      gives =
+          line-refused (a .text .now) _ (l .line) (heldOf (a .text .now) (a .n) (hand (l .sets) (l .starts) (l .lens) (l .keys) (l .turns)) (l .stocks) (l .turned)) (l .i) (l .inv .1)
+          (c .before .before .before .before .before .before .before .before .before .before .before .before .loop-test .taken) (f .result) (f .ensures) (sym (c .before .before .before .before .before .before .before .before .before .before .strays .ensures) ∙ c .before .before .before .before .before .before .before .before .before .if1 .left)
+          (r .0 .0) (bad-gives (t .ensures) (r .0 .0) (r .1));
+      kept = tt;
     }
 
 returns-3 : tie.Need-returns-3 Inv-loop μ-loop
 returns-3 c =
     let a = c .before .before .before .args in
     let l = c .before .loop in
-    record
-    { gives = no-line (a .text .now) _ (l .line) (heldOf (a .text .now) (a .n) (hand (l .sets) (l .starts) (l .lens) (l .keys) (l .turns)) (l .stocks) (l .turned)) (l .i) (l .inv .1) (c .loop-test .left)
-    ; kept = l .inv .0
+    record {
+      gives = no-line (a .text .now) _ (l .line) (heldOf (a .text .now) (a .n) (hand (l .sets) (l .starts) (l .lens) (l .keys) (l .turns)) (l .stocks) (l .turned)) (l .i) (l .inv .1) (c .loop-test .left);
+      kept = l .inv .0;
     }
 
 pub later-lines-spec : {M : Type 1} → statement M

@@ -86,10 +86,11 @@ loop-less c = omega arith
 loop-again : tie.Need-loop-again Inv-loop μ-loop
 loop-again c =
     let l = c .before .before .before .before .before in
-    let g = c .before .before .before .before .before .before .before .before .before .before .args in
-    ( omega arith
-    , refl
-    , l .loop .inv .2 ∙ on-digit (g .hi) (l .loop .v) (g .field .now) (l .loop .i) (omega arith) (omega arith) (omega arith))
+    let g = c .before .before .before .before .before .before .before .before .before .before .args in (
+      omega arith,
+      refl,
+      l .loop .inv .2 ∙ on-digit (g .hi) (l .loop .v) (g .field .now) (l .loop .i) (omega arith) (omega arith) (omega arith),
+    )
 
 returns-7 : tie.Need-returns-7 Inv-loop μ-loop
 returns-7 c =

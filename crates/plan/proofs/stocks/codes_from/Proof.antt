@@ -22,8 +22,8 @@ use Rattle.plan.proofs.stocks.take_code.Reads as take-code-reads
 abbrev Inv-loop : tie.InvT-loop
 Inv-loop text at end count set starts₀ lens₀ keys₀ i₀ k₀ s₀ starts lens keys i k s =
     Table text starts lens keys k
-    × ( each takeCode (holding (codesIn text starts₀ lens₀ count) set) (fieldsFrom text at end)
-        ≡ each takeCode (holding (codesIn text starts lens k) s) (fieldsFrom text i end))
+    × (each takeCode (holding (codesIn text starts₀ lens₀ count) set) (fieldsFrom text at end)
+    ≡ each takeCode (holding (codesIn text starts lens k) s) (fieldsFrom text i end))
 
 abbrev μ-loop : tie.MeasureT-loop
 μ-loop text at end count set starts₀ lens₀ keys₀ i₀ k₀ s₀ starts lens keys i k s = suc end - i
@@ -46,10 +46,10 @@ ended c =
 take-code-requires : tie.Need-take-code-requires Inv-loop μ-loop
 take-code-requires c κs =
     let f = c .before .before .before in
-    record
-    { starts-at = omega (arith, f .field-end .ensures)
-    ; ends = omega (arith, ended f, f .before .before .before .before .before .pre .ends)
-    ; table = f .before .before .before .loop .inv .0
+    record {
+      starts-at = omega (arith, f .field-end .ensures);
+      ends = omega (arith, ended f, f .before .before .before .before .before .pre .ends);
+      table = f .before .before .before .loop .inv .0;
     }
 
 add-i : tie.Need-add-i Inv-loop μ-loop
@@ -67,10 +67,11 @@ loop-again c =
     let g = f .before .before .before .before .before in
     let l = f .before .before .before .loop in
     let t = c .before .before .before .take-code in
-    let r = c .before .r .given in
-    ( stocks-kept (t .ensures) (r .0 .0) (r .0 .1 .0) (r .1)
-    , field-taken takeCode (g .args .text .now) (g .args .end) (g .pre .ends) _ (holding (codesIn (g .args .text .now) (l .starts) (l .lens) (l .k)) (l .s)) (l .i) (l .inv .1)
-      (f .field-end .result) (f .before .before .loop-test .taken) (f .field-end .ensures) _ (stocks-gives (t .ensures) (r .0 .0) (r .0 .1 .0) (r .1)))
+    let r = c .before .r .given in (
+      stocks-kept (t .ensures) (r .0 .0) (r .0 .1 .0) (r .1),
+      field-taken takeCode (g .args .text .now) (g .args .end) (g .pre .ends) _ (holding (codesIn (g .args .text .now) (l .starts) (l .lens) (l .k)) (l .s)) (l .i) (l .inv .1)
+          (f .field-end .result) (f .before .before .loop-test .taken) (f .field-end .ensures) _ (stocks-gives (t .ensures) (r .0 .0) (r .0 .1 .0) (r .1)),
+    )
 
 enum-known-r-2 : tie.Need-enum-known-r-2 Inv-loop μ-loop
 enum-known-r-2 c = search needs
@@ -82,22 +83,22 @@ returns c =
     let l = f .before .before .before .loop in
     let t = c .before .before .before .take-code in
     let r = c .before .r2 .given in
-    record
-    { gives =
-        field-refused takeCode (g .args .text .now) (g .args .end) (g .pre .ends) _ (holding (codesIn (g .args .text .now) (l .starts) (l .lens) (l .k)) (l .s)) (l .i) (l .inv .1)
-        (f .field-end .result) (f .before .before .loop-test .taken) (f .field-end .ensures) _ (refused-gives (t .ensures) (r .0 .0) (r .1))
-    ; kept = tt
+    record {
+      gives =
+          field-refused takeCode (g .args .text .now) (g .args .end) (g .pre .ends) _ (holding (codesIn (g .args .text .now) (l .starts) (l .lens) (l .k)) (l .s)) (l .i) (l .inv .1)
+          (f .field-end .result) (f .before .before .loop-test .taken) (f .field-end .ensures) _ (refused-gives (t .ensures) (r .0 .0) (r .1));
+      kept = tt;
     }
 
 returns-2 : tie.Need-returns-2 Inv-loop μ-loop
 returns-2 c =
     let g = c .before .before .before in
     let l = c .before .loop in
-    record
-    { gives =
-        no-field takeCode (g .args .text .now) (g .args .end) (g .pre .ends) _ (holding (codesIn (g .args .text .now) (l .starts) (l .lens) (l .k)) (l .s)) (l .i) (l .inv .1)
-        (c .loop-test .left)
-    ; kept = l .inv .0
+    record {
+      gives =
+          no-field takeCode (g .args .text .now) (g .args .end) (g .pre .ends) _ (holding (codesIn (g .args .text .now) (l .starts) (l .lens) (l .k)) (l .s)) (l .i) (l .inv .1)
+          (c .loop-test .left);
+      kept = l .inv .0;
     }
 
 pub codes-from-spec : {M : Type 1} → statement M

@@ -56,11 +56,11 @@ returns-3 c =
     let a = g .args in
     let f = c .before .before .before .before .field-end in
     let n = c .before .number in
-    record
-    { gives =
-        has-nobody (a .n) _ (a .text .now) (a .at) (a .end) (g .pre .ends) (c .before .before .before .before .before .before .if1 .left) (f .result) (f .ensures) (c .before .before .before .if2 .left)
-        (n .result) (n .ensures) (c .if3 .taken)
-    ; kept = tt
+    record {
+      gives =
+          has-nobody (a .n) _ (a .text .now) (a .at) (a .end) (g .pre .ends) (c .before .before .before .before .before .before .if1 .left) (f .result) (f .ensures) (c .before .before .before .if2 .left)
+          (n .result) (n .ensures) (c .if3 .taken);
+      kept = tt;
     }
 
 sub-i : tie.Need-sub-i
@@ -109,11 +109,11 @@ returns-4 c =
     let n = c .before .before .before .before .before .before .before .before .before .number in
     let t = c .before .before .before .codes-from in
     let r = c .before .r .given in
-    record
-    { gives =
-        has-taken (a .n) (stocked (codesIn (a .text .now) (a .starts .now) (a .lens .now) (a .count)) (a .sets .now)) (a .text .now) (a .at) (a .end) (g .pre .ends) (c .before .before .before .before .before .before .before .before .before .before .before .before .before .before .if1 .left) (f .result) (f .ensures) (c .before .before .before .before .before .before .before .before .before .before .before .if2 .left)
-        (n .result) (n .ensures) (c .before .before .before .before .before .before .before .before .if3 .left) _ (stocks-gives (t .ensures) (r .0 .0) (r .0 .1 .0) (r .1))
-    ; kept = (length-set (a .sets .now) (n .result - 1) (r .0 .1 .0) ∙ g .pre .sets-long, stocks-kept (t .ensures) (r .0 .0) (r .0 .1 .0) (r .1))
+    record {
+      gives =
+          has-taken (a .n) (stocked (codesIn (a .text .now) (a .starts .now) (a .lens .now) (a .count)) (a .sets .now)) (a .text .now) (a .at) (a .end) (g .pre .ends) (c .before .before .before .before .before .before .before .before .before .before .before .before .before .before .if1 .left) (f .result) (f .ensures) (c .before .before .before .before .before .before .before .before .before .before .before .if2 .left)
+          (n .result) (n .ensures) (c .before .before .before .before .before .before .before .before .if3 .left) _ (stocks-gives (t .ensures) (r .0 .0) (r .0 .1 .0) (r .1));
+      kept = (length-set (a .sets .now) (n .result - 1) (r .0 .1 .0) ∙ g .pre .sets-long, stocks-kept (t .ensures) (r .0 .0) (r .0 .1 .0) (r .1));
     }
 
 returns-5 : tie.Need-returns-5
@@ -124,11 +124,11 @@ returns-5 c =
     let n = c .before .before .before .before .before .before .before .before .before .number in
     let t = c .before .before .before .codes-from in
     let r = c .before .r2 .given in
-    record
-    { gives =
-        has-refused (a .n) (stocked (codesIn (a .text .now) (a .starts .now) (a .lens .now) (a .count)) (a .sets .now)) (a .text .now) (a .at) (a .end) (g .pre .ends) (c .before .before .before .before .before .before .before .before .before .before .before .before .before .before .if1 .left) (f .result) (f .ensures) (c .before .before .before .before .before .before .before .before .before .before .before .if2 .left)
-        (n .result) (n .ensures) (c .before .before .before .before .before .before .before .before .if3 .left) (r .0 .0) (refused-gives (t .ensures) (r .0 .0) (r .1))
-    ; kept = tt
+    record {
+      gives =
+          has-refused (a .n) (stocked (codesIn (a .text .now) (a .starts .now) (a .lens .now) (a .count)) (a .sets .now)) (a .text .now) (a .at) (a .end) (g .pre .ends) (c .before .before .before .before .before .before .before .before .before .before .before .before .before .before .if1 .left) (f .result) (f .ensures) (c .before .before .before .before .before .before .before .before .before .before .before .if2 .left)
+          (n .result) (n .ensures) (c .before .before .before .before .before .before .before .before .if3 .left) (r .0 .0) (refused-gives (t .ensures) (r .0 .0) (r .1));
+      kept = tt;
     }
 
 pub has-line-spec : {M : Type 1} → statement M

@@ -31,12 +31,12 @@ is-stock-requires : tie.Need-is-stock-requires Inv-loop μ-loop
 is-stock-requires c κs =
     let g = c .before .before .before in
     let j = c .before .loop .j in
-    record
-    { starts-at = g .pre .starts-at
-    ; ends = g .pre .ends
-    ; key-is = g .pre .key-is
-    ; below = omega (arith, g .pre .table .most, c .loop-test .taken)
-    ; entry = g .pre .table .entry j (c .loop-test .taken)
+    record {
+      starts-at = g .pre .starts-at;
+      ends = g .pre .ends;
+      key-is = g .pre .key-is;
+      below = omega (arith, g .pre .table .most, c .loop-test .taken);
+      entry = g .pre .table .entry j (c .loop-test .taken);
     }
 
 returns : tie.Need-returns Inv-loop μ-loop
@@ -62,11 +62,12 @@ loop-again c =
     let l = c .before .before .before .loop in
     let codes = codesIn (g .text .now) (g .starts .now) (g .lens .now) (g .count) in
     let long = codes-length (g .text .now) (g .starts .now) (g .lens .now) (g .count) in
-    let is = codes-at (g .text .now) (g .starts .now) (g .lens .now) (g .count) (l .j) (omega arith) in
-    ( omega arith
-    , l .inv .1
-      ∙ stock-on (part (g .text .now) (g .at) (g .end)) codes (l .j) (omega arith)
-        (ap (same (part (g .text .now) (g .at) (g .end))) is ∙ sym (c .before .is-stock .ensures) ∙ c .if1 .left))
+    let is = codes-at (g .text .now) (g .starts .now) (g .lens .now) (g .count) (l .j) (omega arith) in (
+      omega arith,
+      l .inv .1
+          ∙ stock-on (part (g .text .now) (g .at) (g .end)) codes (l .j) (omega arith)
+          (ap (same (part (g .text .now) (g .at) (g .end))) is ∙ sym (c .before .is-stock .ensures) ∙ c .if1 .left),
+    )
 
 returns-2 : tie.Need-returns-2 Inv-loop μ-loop
 returns-2 c =

@@ -38,11 +38,11 @@ returns-2 : tie.Need-returns-2
 returns-2 c =
     let g = c .before .before .before .before .before in
     let a = g .args in
-    record
-    { gives =
-        code-blank _ _ (omega (arith, field-length (a .text .now) (a .at) (a .end) (g .pre .starts-at) (g .pre .ends), c .before .before .before .if1 .left))
-        (sym (c .before .code-len .ensures) ∙ c .if2 .taken)
-    ; kept = tt
+    record {
+      gives =
+          code-blank _ _ (omega (arith, field-length (a .text .now) (a .at) (a .end) (g .pre .starts-at) (g .pre .ends), c .before .before .before .if1 .left))
+          (sym (c .before .code-len .ensures) ∙ c .if2 .taken);
+      kept = tt;
     }
 
 add-add-stock : tie.Need-add-add-stock
@@ -56,9 +56,10 @@ add-stock-requires c κs =
     let g = c .before .before .before .before .before .before .before .before in
     let a = g .args in
     let n = c .before .before .before .before .code-len in
-    let most = code-most (a .text .now) (a .at) (a .end) (g .pre .starts-at) (g .pre .ends) (n .result) (n .ensures) in
-    ( record { starts-at = omega arith; ends = omega (arith, most, g .pre .ends); table = g .pre .table }
-    , omega (arith, most, c .before .before .before .before .before .before .if1 .left))
+    let most = code-most (a .text .now) (a .at) (a .end) (g .pre .starts-at) (g .pre .ends) (n .result) (n .ensures) in (
+      record { starts-at = omega arith; ends = omega (arith, most, g .pre .ends); table = g .pre .table },
+      omega (arith, most, c .before .before .before .before .before .before .if1 .left),
+    )
 
 returns-3 : tie.Need-returns-3
 returns-3 c =
@@ -66,12 +67,12 @@ returns-3 c =
     let a = g .args in
     let n = c .before .before .before .before .before .code-len in
     let f = c .add-stock .ensures in
-    record
-    { gives =
-        f .gives
-        ∙ ap (addStock _) (sym (code-part (a .text .now) (a .at) (a .end) (g .pre .starts-at) (g .pre .ends) (n .result) (n .ensures)))
-        ∙ sym (code-left _ _ (omega (arith, field-length (a .text .now) (a .at) (a .end) (g .pre .starts-at) (g .pre .ends), c .before .before .before .before .before .before .before .if1 .left)) (λ z. c .before .before .before .before .if2 .left (n .ensures ∙ z)))
-    ; kept = f .kept
+    record {
+      gives =
+          f .gives
+          ∙ ap (addStock _) (sym (code-part (a .text .now) (a .at) (a .end) (g .pre .starts-at) (g .pre .ends) (n .result) (n .ensures)))
+          ∙ sym (code-left _ _ (omega (arith, field-length (a .text .now) (a .at) (a .end) (g .pre .starts-at) (g .pre .ends), c .before .before .before .before .before .before .before .if1 .left)) (λ z. c .before .before .before .before .if2 .left (n .ensures ∙ z)));
+      kept = f .kept;
     }
 
 pub take-code-spec : {M : Type 1} → statement M

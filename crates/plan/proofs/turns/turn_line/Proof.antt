@@ -23,11 +23,11 @@ turns-from-requires c κs = search needs
 returns-2 : tie.Need-returns-2
 returns-2 c =
     let g = c .before .before .before .before in
-    record
-    { gives =
-        c .turns-from .ensures .gives
-        ∙ sym (turn-line-some (g .args .n) _ (g .args .text .now) (g .args .at) (g .args .end) (omega arith) (g .pre .inside))
-    ; kept = c .turns-from .ensures .kept
+    record {
+      gives =
+          c .turns-from .ensures .gives
+          ∙ sym (turn-line-some (g .args .n) _ (g .args .text .now) (g .args .at) (g .args .end) (omega arith) (g .pre .inside));
+      kept = c .turns-from .ensures .kept;
     }
 
 pub turn-line-spec : {M : Type 1} → statement M

@@ -60,12 +60,12 @@ returns c =
     let s = c .before .before .before in
     let g = s .before .before .before .before .before in
     let l = s .before .before .before .loop in
-    record
-    { gives =
-        field-refused (takeTurn (g .args .n)) (g .args .text .now) (g .args .end) (g .pre .inside) _ (take (l .k) (l .turns)) (l .i) (l .inv .1)
-        (s .field-end .result) (s .before .before .loop-test .taken) (s .field-end .ensures) _
-        (turn-none (g .args .n) _ (c .before .number .result) (c .before .number .ensures) (l .turns) (l .k) (l .inv .0) (c .if1 .taken))
-    ; kept = tt
+    record {
+      gives =
+          field-refused (takeTurn (g .args .n)) (g .args .text .now) (g .args .end) (g .pre .inside) _ (take (l .k) (l .turns)) (l .i) (l .inv .1)
+          (s .field-end .result) (s .before .before .loop-test .taken) (s .field-end .ensures) _
+          (turn-none (g .args .n) _ (c .before .number .result) (c .before .number .ensures) (l .turns) (l .k) (l .inv .0) (c .if1 .taken));
+      kept = tt;
     }
 
 returns-2 : tie.Need-returns-2 Inv-loop μ-loop
@@ -74,12 +74,12 @@ returns-2 c =
     let g = s .before .before .before .before .before in
     let l = s .before .before .before .loop in
     let n = c .before .before .number in
-    record
-    { gives =
-        field-refused (takeTurn (g .args .n)) (g .args .text .now) (g .args .end) (g .pre .inside) _ (take (l .k) (l .turns)) (l .i) (l .inv .1)
-        (s .field-end .result) (s .before .before .loop-test .taken) (s .field-end .ensures) _
-        (turn-more (g .args .n) _ (n .result) (n .ensures) (l .turns) (l .k) (l .inv .0) (c .before .if1 .left) (c .if2 .taken))
-    ; kept = tt
+    record {
+      gives =
+          field-refused (takeTurn (g .args .n)) (g .args .text .now) (g .args .end) (g .pre .inside) _ (take (l .k) (l .turns)) (l .i) (l .inv .1)
+          (s .field-end .result) (s .before .before .loop-test .taken) (s .field-end .ensures) _
+          (turn-more (g .args .n) _ (n .result) (n .ensures) (l .turns) (l .k) (l .inv .0) (c .before .if1 .left) (c .if2 .taken));
+      kept = tt;
     }
 
 element-write-turns : tie.Need-element-write-turns Inv-loop μ-loop
@@ -99,19 +99,20 @@ loop-again c =
     let s = c .before .before .before .before in
     let g = s .before .before .before .before .before in
     let l = s .before .before .before .loop in
-    let n = c .before .before .number in
-    ( turns-more (l .k) (l .turns) (n .result) (c .if2 .left) (l .inv .0)
-    , field-taken (takeTurn (g .args .n)) (g .args .text .now) (g .args .end) (g .pre .inside) _ (take (l .k) (l .turns)) (l .i) (l .inv .1)
-      (s .field-end .result) (s .before .before .loop-test .taken) (s .field-end .ensures) _
-      (turn-taken (g .args .n) _ (n .result) (n .ensures) (l .turns) (l .k) (l .inv .0) (c .before .if1 .left) (c .if2 .left)))
+    let n = c .before .before .number in (
+      turns-more (l .k) (l .turns) (n .result) (c .if2 .left) (l .inv .0),
+      field-taken (takeTurn (g .args .n)) (g .args .text .now) (g .args .end) (g .pre .inside) _ (take (l .k) (l .turns)) (l .i) (l .inv .1)
+          (s .field-end .result) (s .before .before .loop-test .taken) (s .field-end .ensures) _
+          (turn-taken (g .args .n) _ (n .result) (n .ensures) (l .turns) (l .k) (l .inv .0) (c .before .if1 .left) (c .if2 .left)),
+    )
 
 returns-3 : tie.Need-returns-3 Inv-loop μ-loop
 returns-3 c =
     let g = c .before .before .before in
     let l = c .before .loop in
-    record
-    { gives = no-field (takeTurn (g .args .n)) (g .args .text .now) (g .args .end) (g .pre .inside) _ (take (l .k) (l .turns)) (l .i) (l .inv .1) (c .loop-test .left)
-    ; kept = l .inv .0
+    record {
+      gives = no-field (takeTurn (g .args .n)) (g .args .text .now) (g .args .end) (g .pre .inside) _ (take (l .k) (l .turns)) (l .i) (l .inv .1) (c .loop-test .left);
+      kept = l .inv .0;
     }
 
 pub turns-from-spec : {M : Type 1} → statement M
