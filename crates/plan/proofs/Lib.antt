@@ -1,0 +1,16 @@
+-- Laws that belong to no one function.
+pub mod Runs
+pub mod Pieces
+pub mod Windows
+pub mod Fields
+pub mod Turned
+pub mod Listing
+pub mod Coding
+pub mod HasLines
+pub mod GangLines
+pub mod LineWays
+pub mod Later
+pub mod Celled
+pub mod Whole
+pub mod Numbers
+pub mod Codes

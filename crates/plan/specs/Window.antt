@@ -1,0 +1,22 @@
+-- The window on the text: a part of it, and the fields from a place on.
+use Prim.Native.Nat.{ℕ, _-_}
+use mathlib.Core.Bool.{Bool, cond, not, _&&_}
+use mathlib.Core.List.{List, []}
+use lib.ListN.{length, getD, take, drop}
+use lib.Dec.{leb, ltb, eqb}
+use Rattle.plan.specs.Text.{LF, tab, fieldsOf}
+
+-- the bytes from place a up to place e
+abbrev pub part : List ℕ → ℕ → ℕ → List ℕ
+part s a e = take (e - a) (drop a s)
+
+abbrev pub noTab : ℕ → Bool
+noTab b = not (eqb b tab)
+
+-- the fields of the line up to `end` from place `at` on: none where `at` is past the end
+unfoldable pub fieldsFrom : List ℕ → ℕ → ℕ → List (List ℕ)
+fieldsFrom text at end = cond (leb at end) (fieldsOf (part text at end)) []
+
+-- the byte at `end` is there and ends no line
+abbrev pub strays : List ℕ → ℕ → Bool
+strays text end = ltb end (length text) && not (eqb (getD text end 0) LF)

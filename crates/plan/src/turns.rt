@@ -1,0 +1,58 @@
+// `TURN`: each further field is a turn.
+ghost use Prim.Native.Nat.{_≤_};
+ghost use lib.ListN.{length, take};
+ghost use Rattle.plan.specs.Plan.{each, takeTurn, turnLine};
+ghost use Rattle.plan.specs.Window.{fieldsFrom};
+ghost use Rattle.plan.specs.Hand.{TurnsAt, TurnsRead};
+use super::Counted;
+use super::Fault;
+use super::number::number;
+use super::scan::field_end;
+
+// The fields from `at` to the line's end, each put at the end of the turns.
+fn turns_from(
+    text: &[u8],
+    at: usize,
+    end: usize,
+    n: u8,
+    count: usize,
+    turns: &mut [u8; 4096],
+) -> Counted
+    requires { ⌜ TurnsAt (now text) end count (now turns) ⌝ }
+    ensures { λ r. ⌜ TurnsRead r (now (turns .exit)) (each (takeTurn n) (take count (now (turns .entry))) (fieldsFrom (now (text .entry)) at end)) ⌝ }
+{
+    let mut i = at;
+    let mut k = count;
+    while i <= end {
+        let e = field_end(&text[..end], i);
+        let station = number(&text[i..e], n);
+        if station == 0 {
+            return Counted::Refused(Fault::NoStation);
+        }
+        if k >= 4096 {
+            return Counted::Refused(Fault::MoreTurns);
+        }
+        turns[k] = station;
+        k += 1;
+        i = e + 1;
+    }
+    Counted::Count(k)
+}
+
+// The fields of a `TURN` line behind its word.
+pub fn turn_line(
+    text: &[u8],
+    at: usize,
+    end: usize,
+    n: u8,
+    count: usize,
+    turns: &mut [u8; 4096],
+) -> Counted
+    requires { ⌜ TurnsAt (now text) end count (now turns) ⌝ }
+    ensures { λ r. ⌜ TurnsRead r (now (turns .exit)) (turnLine n (take count (now (turns .entry))) (fieldsFrom (now (text .entry)) at end)) ⌝ }
+{
+    if at > end {
+        return Counted::Refused(Fault::FewFields);
+    }
+    turns_from(text, at, end, n, count, turns)
+}
