@@ -1,26 +1,23 @@
 -- A call that passed the tests: what is played on the record is the method's run, and the answer is its rows.
-use Prim.Native.Nat.{ℕ, zero, suc, _+_, _*_, _^_, _≤_, _<_}
+use Prim.Native.Nat.{ℕ, zero, suc, _+_, _*_, _≤_, _<_}
 use mathlib.Core.Path.{_≡_, refl, sym, ap, _∙_}
 use mathlib.Core.Logic.{⊎-elim}
-use mathlib.Core.Bool.{Bool, true, false, cond, not, _&&_, false≢true}
+use mathlib.Core.Bool.{Bool, true, false, not, _&&_, false≢true}
 use mathlib.Core.List.{List, _++_}
 use native.Mathlib.Nat.{eq-or-lt-of-le, le-antisymm, le-refl}
 use native.Mathlib.Omega.{arith}
 use borrow.Author.Tests.{lt-ltb, le-ltb, leb-true}
-use lib.Dec.{leb, ltb}
+use lib.Dec.{leb}
 use lib.ListN.{length, getD, drop}
-use lib.Pow.{pow-mono}
-use Rattle.method.specs.declared.Row.{Row}
 use Rattle.method.specs.declared.Run.{Run}
 use Rattle.method.specs.declared.Turned.{Turned}
-use Rattle.method.specs.Board.{levels, registers, depth, fresh, freshOn, rowOf}
+use Rattle.method.specs.Board.{levels, registers, fresh, freshOn, rowOf}
 use Rattle.method.specs.Turn.{turn, after}
 use Rattle.method.specs.Demand.{Fits, Station}
-use Rattle.method.proofs.Depth.{depth-least}
-use Rattle.method.proofs.Demand3.{count-within}
+use Rattle.method.proofs.Demand3.{count-within, fits-board}
 use Rattle.board.specs.declared.playing.Played.{Played}
 use Rattle.board.specs.Step.{stepOf, countEnd}
-use Rattle.board.specs.Playing.{stepped, firstFrom, isUnwritten, unwrittenStep, stopsAt, playedOf}
+use Rattle.board.specs.Playing.{stepped, firstFrom, unwrittenStep, stopsAt, playedOf}
 use Rattle.run.specs.declared.verdict.Verdict.{Verdict}
 use Rattle.run.specs.declared.verdict.Verdict.the-variants.{Accepted, NoStations, WrongInputs, TooManyTurns, BadTurn, ShortAnswer, UnwrittenLine}
 use Rattle.run.specs.Bytes.{inputsIn}
@@ -82,21 +79,20 @@ good n turns t e = go (leb 1 (getD turns t 0)) (leb (getD turns t 0) n) refl ref
     go true false p q z = absurd (false≢true (sym z))
     go false b p q z = absurd (false≢true (sym z))
 
-module _ (n : ℕ) (stocks turns : List ℕ) (high : n ≤ 16) (sixteen : length stocks ≡ 16) (few : length turns ≤ 4096) (past : length turns ≤ firstBad n turns) where
-  stations : (t : ℕ) → t < length turns → Station n (getD turns t 0)
-  unfolding firstBad
-  stations t h = good n turns t (first-past (isBad n turns) 0 (length turns) t (let z : 0 + length turns ≡ length turns = omega arith in rw z past) (omega arith) (omega arith))
+pub stations-named : (n : ℕ) (turns : List ℕ) → length turns ≤ firstBad n turns → (t : ℕ) → t < length turns → Station n (getD turns t 0)
+unfolding firstBad
+stations-named n turns past t h =
+    good n turns t (first-past (isBad n turns) 0 (length turns) t (let z : 0 + length turns ≡ length turns = omega arith in rw z past) (omega arith) (omega arith))
 
+module _ (n : ℕ) (stocks turns : List ℕ) (high : n ≤ 16) (sixteen : length stocks ≡ 16) (few : length turns ≤ 4096) (past : length turns ≤ firstBad n turns) where
   fits : Fits levels registers n stocks
-  fits =
-      let deep : depth n ≤ 4 = depth-least n 4 high in
-      record { deep = deep; wide = pow-mono deep; given = rw sixteen high }
+  fits = fits-board n stocks high (rw sixteen high)
 
   -- no count comes near its end
   step-turn : (t : ℕ) → t < length turns → stepOf (after (fresh n stocks) turns t) (getD turns t 0) ≡ turn (after (fresh n stocks) turns t) (getD turns t 0)
   unfolding stepOf fresh
   step-turn t h =
-      let c : rowOf (after (freshOn 4 16 n stocks) turns t) (getD turns t 0) .count ≤ t = count-within fits turns t (getD turns t 0) (stations t h) in
+      let c : rowOf (after (freshOn 4 16 n stocks) turns t) (getD turns t 0) .count ≤ t = count-within fits turns t (getD turns t 0) (stations-named n turns past t h) in
       rw (lt-ltb (rowOf (after (freshOn 4 16 n stocks) turns t) (getD turns t 0) .count) countEnd (omega arith))
 
   pub stepped-after : (t : ℕ) → t ≤ length turns → stepped (fresh n stocks) turns t ≡ after (fresh n stocks) turns t

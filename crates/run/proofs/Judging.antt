@@ -1,16 +1,15 @@
 -- The refusals before the first turn, by their tests, and what a call that passes them has.
-use Prim.Native.Nat.{ℕ, zero, suc, _+_, _*_, _≤_, _<_}
+use Prim.Native.Nat.{ℕ, _+_, _*_, _≤_, _<_}
 use mathlib.Core.Path.{_≡_, refl, sym, ap, _∙_}
 use mathlib.Core.Bool.{Bool, true, false, cond, not, _&&_, and-false, false≢true}
 use mathlib.Core.List.{List}
 use native.Mathlib.Omega.{arith}
 use borrow.Author.Tests.{lt-ltb, le-ltb, ltb-false, le-leb, lt-leb, leb-true, eq-eqb, ne-eqb, eqb-true}
-use lib.Dec.{leb, ltb, eqb}
+use lib.Dec.{leb}
 use lib.ListN.{length, getD}
-use Rattle.board.specs.Playing.{firstFrom}
 use Rattle.run.specs.declared.verdict.Verdict.{Verdict}
 use Rattle.run.specs.declared.verdict.Verdict.the-variants.{Accepted, NoStations, WrongInputs, TooManyTurns, BadTurn, ShortAnswer, UnwrittenLine}
-use Rattle.run.specs.Call.{numberOf, isAccepted, mostTurns, isBad, firstBad, tests}
+use Rattle.run.specs.Call.{numberOf, isAccepted, isBad, firstBad, tests}
 
 -- ---- the number of a refusal with a place
 

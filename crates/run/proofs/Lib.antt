@@ -2,4 +2,5 @@
 mod Little
 mod Laid
 mod Judging
-mod Agree
+pub mod Agree
+pub mod Demands

@@ -1,14 +1,14 @@
 -- Little-endian numbers: read from a list of bytes, and put into one.
-use Prim.Native.Nat.{ℕ, zero, suc, _+_, _*_, _/_, _%_, _-_, _≤_, _<_}
+use Prim.Native.Nat.{ℕ, zero, suc, _+_, _*_, _≤_, _<_}
 use mathlib.Core.Path.{_≡_, refl, sym, ap, _∙_}
-use mathlib.Core.List.{List, [], _∷_, _++_}
-use native.Mathlib.Numerals.{add-one, towards-suc}
+use mathlib.Core.List.{List}
+use native.Mathlib.Numerals.{add-one}
 use native.Mathlib.Decide.{decLt}
 use native.Mathlib.Omega.{arith}
 use borrow.Author.Count.{below-more}
-use lib.ListN.{length, getD, take, drop, set, length-set, length-append, drop-of-length-le, replicate, getD-replicate, length-replicate}
-use lib.Seq.{drop-cons, drop-drop, sets, sets-eq, length-sets, ext-getD, getD-set-same, getD-set-other}
-use Rattle.run.specs.Bytes.{bytesOf, numberIn, inputsIn}
+use lib.ListN.{length, getD, take, drop, set, length-set, drop-of-length-le, replicate}
+use lib.Seq.{drop-cons, drop-drop, ext-getD, getD-set-same, getD-set-other}
+use Rattle.run.specs.Bytes.{numberIn, inputsIn}
 
 -- the number in m bytes from `at`, byte by byte
 number : ℕ → List ℕ → ℕ → ℕ
