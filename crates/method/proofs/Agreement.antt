@@ -6,8 +6,7 @@ use mathlib.Core.Logic.{_⊎_, inl, inr}
 use Prim.Native.Nat.{ℕ, zero, suc, _-_, _≤_}
 use native.Mathlib.Omega.{arith}
 use borrow.Author.Tests.{eqb-true}
-use Rattle.sets.specs.Mask.{bit, holds}
-use Rattle.sets.proofs.Subset.{Inside}
+use Rattle.sets.specs.Mask.{bit, holds, Inside}
 use Rattle.method.specs.declared.State.{State}
 use Rattle.method.specs.declared.State.the-variants.{NotBegun, Uniting, Gathering, Settled}
 use Rattle.method.specs.Board.{depth, freshOn}

@@ -6,11 +6,11 @@ use Prim.Native.Nat.{ℕ, zero, suc, _+_, _*_, _/_, _%_, _^_, _≤_, _<_}
 use native.Mathlib.Decide.{decLe, le-ind}
 use native.Mathlib.Omega.{arith}
 use lib.Bits.{or-comm}
-use Rattle.sets.specs.Mask.{size, union, bit}
+use Rattle.sets.specs.Mask.{size, union, bit, Inside}
 use Rattle.sets.proofs.Blocks.{sibling}
 use Rattle.sets.proofs.Members.{bit-cases}
 use Rattle.sets.proofs.Digits.{bit-none, bit-union, bit-alone-only}
-use Rattle.sets.proofs.Subset.{Inside, inside-refl, none-inside, union-mono, smaller-inside, size-none, size-alone, size-union}
+use Rattle.sets.proofs.Subset.{inside-refl, none-inside, union-mono, smaller-inside, size-none, size-alone, size-union}
 
 -- what register p of block b at level d holds at moment u
 abbrev pub History : Type 0

@@ -10,9 +10,9 @@ use native.Mathlib.Omega.{arith}
 use borrow.Author.Tests.{eq-eqb}
 use lib.ListN.{length, getD}
 use lib.Pow.{pow-mono}
-use Rattle.sets.specs.Mask.{bit, holds}
+use Rattle.sets.specs.Mask.{bit, holds, Inside}
 use Rattle.sets.proofs.Members.{holds-digit}
-use Rattle.sets.proofs.Subset.{Inside, holds-inside}
+use Rattle.sets.proofs.Subset.{holds-inside}
 use Rattle.method.specs.declared.Run.{Run}
 use Rattle.method.specs.declared.Did.the-variants.{Operation, Idle, Unwritten}
 use Rattle.method.specs.Board.{levels, registers, depth, freshOn, rowOf}

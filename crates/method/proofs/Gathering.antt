@@ -10,9 +10,9 @@ use native.Mathlib.Omega.{arith}
 use lib.Bits.{or-zero-r}
 use lib.Dec.{eqb}
 use lib.ListN.{getD}
-use Rattle.sets.specs.Mask.{union, bit, holds}
+use Rattle.sets.specs.Mask.{union, bit, holds, Inside}
 use Rattle.sets.proofs.Members.{bit-cases}
-use Rattle.sets.proofs.Subset.{Inside, inside-refl, inside-trans, inside-of-eq, none-inside, union-left, union-right, union-mono, member-inside}
+use Rattle.sets.proofs.Subset.{inside-refl, inside-trans, inside-of-eq, none-inside, union-left, union-right, union-mono, member-inside}
 use Rattle.method.specs.Demand.{gathered, inputOf}
 
 module _ (inputs : List ℕ) where

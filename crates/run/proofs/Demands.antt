@@ -7,8 +7,7 @@ use mathlib.Core.Logic.{_⊎_}
 use native.Mathlib.Omega.{arith}
 use lib.ListN.{length, getD, take, drop}
 use lib.Seq.{drop-append-add, take-at}
-use Rattle.sets.specs.Mask.{holds}
-use Rattle.sets.proofs.Subset.{Inside}
+use Rattle.sets.specs.Mask.{holds, Inside}
 use Rattle.method.specs.declared.Row.{Row}
 use Rattle.method.specs.declared.Run.{Run}
 use Rattle.method.specs.Board.{fresh, rowOf, notBegun}

@@ -10,13 +10,9 @@ use lib.Arith.{bin-ind}
 use lib.Bits.{or-step, or-zero-l}
 use lib.Count.{ones, ones-step, ones-cat}
 use lib.Pow.{pow-pos}
-use Rattle.sets.specs.Mask.{size, union, bit, holds}
+use Rattle.sets.specs.Mask.{size, union, bit, holds, Inside}
 use Rattle.sets.proofs.Members.{bit-cases, digit-zero, digit-half}
 use Rattle.sets.proofs.Digits.{bit-small, bit-none, bit-union, bit-alone, bit-alone-only}
-
--- every member of a is one of b
-pub record Inside (a b : ℕ) : Type 0 where
-  pub digit : (d : ℕ) → bit a d ≤ bit b d
 
 pub inside-refl : (a : ℕ) → Inside a a
 inside-refl a = record { digit = λ d. le-refl (bit a d) }

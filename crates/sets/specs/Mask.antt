@@ -1,6 +1,6 @@
 -- A set as a mask: station or stock number i, counted from 1, is the binary digit 2 ^ (i - 1).
 -- Executable; no width is built in.
-use Prim.Native.Nat.{ℕ, zero, suc, _+_, _-_, _/_, _%_, _^_}
+use Prim.Native.Nat.{ℕ, zero, suc, _+_, _-_, _/_, _%_, _^_, _≤_}
 use mathlib.Core.Bool.{Bool, true, false, cond, _&&_}
 use lib.Dec.{eqb, leb}
 use lib.Bits.{bitOr}
@@ -30,6 +30,10 @@ bit s d = s / 2 ^ d % 2
 unfoldable pub holds : ℕ → ℕ → Bool
 holds s zero = false
 holds s (suc d) = eqb (bit s d) 1
+
+-- one holds the other: every member of a is a member of b
+pub record Inside (a b : ℕ) : Type 0 where
+  pub digit : (d : ℕ) → bit a d ≤ bit b d
 
 -- the first member of s from i on, looking at no more than `most` numbers; 0 where there is none
 unfoldable pub memberFrom : ℕ → ℕ → ℕ → ℕ
