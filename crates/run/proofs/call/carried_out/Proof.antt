@@ -26,7 +26,7 @@ returns c =
     (played-begun _ _ _ _ _ _ (c .before .before .before .inputs-of .ensures) (c .before .before .fresh .ensures) (c .before .play-out .ensures)) (c .if1 .taken)
 
 put-rows-requires : tie.Need-put-rows-requires
-put-rows-requires c κs = let t = taken _ _ _ _ (c .before .before .before .before .before .before .before .before .before .before .pre) in (t .high, t .wide)
+put-rows-requires c κs = let t = taken _ _ _ _ (c .before .before .before .before .before .before .before .before .before .before .pre) in (omega (arith, t .high), omega (arith, t .wide))
 
 same-length : tie.Need-same-length
 same-length c = search needs
