@@ -4,6 +4,7 @@ use mathlib.Core.Bool.{Bool, true, false}
 use mathlib.Core.List.{List, map}
 use lib.Dec.{leb}
 use lib.ListN.{getD, set, replicate}
+use Rattle.sets.specs.Limits.{mostStations}
 use Rattle.sets.specs.Arrays.{place}
 use Rattle.method.specs.declared.Line.{Line}
 use Rattle.method.specs.declared.Level.{Level}
@@ -17,7 +18,7 @@ abbrev pub levels : ℕ
 levels = 4
 
 abbrev pub registers : ℕ
-registers = 16
+registers = mostStations
 
 -- "N is the least number with 2^N at least n": the first from N on, looking at no more than `most` of them
 unfoldable pub depthFrom : ℕ → ℕ → ℕ → ℕ

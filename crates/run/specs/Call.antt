@@ -5,6 +5,7 @@ use mathlib.Core.Path.{_≡_}
 use mathlib.Core.List.{List, _++_}
 use lib.Dec.{leb, ltb, eqb}
 use lib.ListN.{length, getD, drop}
+use Rattle.sets.specs.Limits.{mostTurns}
 use Rattle.method.specs.declared.Run.{Run}
 use Rattle.method.specs.Board.{registers, fresh}
 use Rattle.method.specs.Turn.{after, turn}
@@ -32,10 +33,6 @@ isAccepted TooManyTurns = false
 isAccepted (BadTurn at) = false
 isAccepted ShortAnswer = false
 isAccepted (UnwrittenLine at) = false
-
--- "turns 0 to 4,096"
-abbrev pub mostTurns : ℕ
-mostTurns = 4096
 
 -- "a turn is 0 or above n": the first such turn, counted from 0
 abbrev pub isBad : ℕ → List ℕ → ℕ → Bool
