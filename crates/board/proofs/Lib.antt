@@ -1,5 +1,7 @@
 -- Laws for the proofs of this crate.
 mod Filled
-mod Holding
+mod Placing
 mod Turns
+mod Within
+mod Record
 pub mod Orders
