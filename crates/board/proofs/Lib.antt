@@ -4,4 +4,7 @@ mod Placing
 mod Turns
 mod Within
 mod Record
+mod Calling
+mod Stepping
+mod Shape
 pub mod Orders

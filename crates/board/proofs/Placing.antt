@@ -3,7 +3,7 @@ use Prim.Native.Nat.{ℕ, _-_, _≤_, _<_}
 use mathlib.Core.Path.{_≡_, refl, sym, ap, _∙_}
 use mathlib.Core.Bool.{Bool, true, false, cond, _&&_, and-false}
 use native.Mathlib.Omega.{arith}
-use borrow.Author.Tests.{leb-true, lt-ltb, le-ltb, le-leb, lt-leb}
+use borrow.Author.Tests.{leb-true, ltb-true, lt-ltb, le-ltb, le-leb, lt-leb}
 use lib.Dec.{leb, ltb}
 use Rattle.sets.specs.Arrays.{place}
 use Rattle.method.specs.declared.State.{State}
@@ -77,3 +77,37 @@ module _ (i : ℕ) (s : State) (op : Op) (x : Aim) where
   pub aims-rest : op ≡ nextOp i s → op ≡ Rest → x ≡ nowhere op → x ≡ aimOf i (nextOp i s)
   unfolding aimOf
   aims-rest n e f = f ∙ rw (← n, e)
+
+-- every place is on the record
+pub record Placed (a : Aim) : Type 0 where
+  pub level : a .level < 4
+  pub register : a .register < 16
+  pub line : a .line < 16
+
+placed-nowhere : (op : Op) → Placed (nowhere op)
+placed-nowhere op = record { level = omega arith; register = omega arith; line = omega arith }
+
+placed-register : (op : Op) (k c j : ℕ) → Placed (registerAim op k c j)
+unfolding registerAim
+placed-register op k c j = at (ltb (k - 1) 4) (ltb (place k c j - 1) 16) refl refl
+  where
+    at : (x y : Bool) → ltb (k - 1) 4 ≡ x → ltb (place k c j - 1) 16 ≡ y → Placed (cond (x && y) (aim op true (k - 1) (place k c j - 1) 0) (nowhere op))
+    at true true e f = record { level = ltb-true (k - 1) 4 e; register = ltb-true (place k c j - 1) 16 f; line = omega arith }
+    at true false e f = placed-nowhere op
+    at false y e f = placed-nowhere op
+
+placed-line : (op : Op) (j : ℕ) → Placed (lineAim op j)
+unfolding lineAim
+placed-line op j = at (ltb (j - 1) 16) refl
+  where
+    at : (x : Bool) → ltb (j - 1) 16 ≡ x → Placed (cond x (aim op true 0 0 (j - 1)) (nowhere op))
+    at true e = record { level = omega arith; register = omega arith; line = ltb-true (j - 1) 16 e }
+    at false e = placed-nowhere op
+
+pub placed : (i : ℕ) (op : Op) → Placed (aimOf i op)
+unfolding aimOf
+placed i (Post stocks) = placed-line (Post stocks) i
+placed i (Write k c j v) = placed-register (Write k c j v) k c j
+placed i (Read k c j) = placed-register (Read k c j) k c j
+placed i (ReadLine j) = placed-line (ReadLine j) j
+placed i Rest = placed-nowhere Rest

@@ -1,7 +1,7 @@
 -- A value that lies within another in memory, and the two steps of a walk that use it: a read leaves the whole as it is, and a store
 -- leaves the whole with the new value in the old one's place. So a record that is lent stays whole between the statements.
 --     Within         a whole in memory is a part of it in memory, with the way from a new part back to a new whole
---     within-in      a part of a part
+--     within-self    a value is a part of itself; `within-in` a part of a part
 --     within-field   an array of numbers that is a field of a struct; `within-records` an array of structs
 --     within-item    an element of an array
 --     knows          what the part's type says of the part's value is learned, and the whole stays
@@ -41,6 +41,9 @@ module _ {M : Type 1} (𝓤 : URA M) (H : Heap 𝓤) (A : Atoms 𝓤) where
 module _ {M : Type 1} (𝓤 : URA M) (H : Heap 𝓤) (A : Atoms 𝓤) (W : Given 𝓤 H A) (q : Share) where
   abbrev ⟦_⟧ : base.Fml.Fml → SProp 𝓤
   ⟦ P ⟧ = sem 𝓤 H A P
+
+  pub within-self : (R : RattleType) (h : R .Denot) (b o : ℕ) → Within 𝓤 H A q R R h h h h b o o
+  within-self R h b o = record { cut = qed W (‵ (partAt R q h b o) ∷ []) ∵ frame ! $ assume ! (‵ (partAt R q h b o)) $ done ! }
 
   pub within-in : {R F G : RattleType} {h h′ : R .Denot} {f f′ : F .Denot} {g g′ : G .Denot} {b o p r : ℕ} → Within 𝓤 H A q R F h h′ f f′ b o p → Within 𝓤 H A q F G f f′ g g′ b p r → Within 𝓤 H A q R G h h′ g g′ b o r
   within-in {R} {F} {G} {h} {h′} {f} {f′} {g} {g′} {b} {o} {p} {r} outer inner = record { cut =
