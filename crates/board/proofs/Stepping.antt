@@ -26,7 +26,7 @@ use Rattle.board.specs.declared.turning.Made.{Made}
 use Rattle.board.specs.Step.{countEnd, stepOf}
 use Rattle.board.specs.Places.{seatAt, aim, nowhere, registerAim, lineAim, aimOf, leaves, onward, made, madeOf}
 use Rattle.board.proofs.Placing.{seat-below}
-use Rattle.board.proofs.Record.{withBoard, withLines, withRows, levelAt, withCell}
+use Rattle.board.proofs.Record.{withBoard, withLines, withRows, levelAt, withCell, same-cell}
 
 -- the record has a row and a line for each of 16 stations, and four levels of 16 registers
 pub record Shaped (run : Run) : Type 0 where
@@ -47,18 +47,15 @@ abbrev pub putAll : Run → ℕ → Aim → Made → Run
 putAll run s a m = withRows (withLines (withCell run (a .level) (a .register) (m .set)) (set (run .lines) (a .line) (m .line))) (set (run .rows) s (m .row))
 
 module _ (run : Run) where
-  same-cell : (l p : ℕ) → withCell run l p (getD (levelAt run l .sets) p 0) ≡ run
-  same-cell l p = ap (λ (s : List ℕ). withBoard run (set (run .board) l (record { sets = s }))) (set-getD (levelAt run l .sets) p 0) ∙ ap (λ (ys : List Level). withBoard run ys) (set-getD (run .board) l (emptyLevel 0))
-
   module _ (s : ℕ) (a : Aim) (did : Did) where
     -- what is left as it was needs no telling
     put-row : (y : Row) → putAll run s a (leaves y (lineAt run a) (heldAt run a) did) ≡ withRows run (set (run .rows) s y)
     put-row y =
-        ap (λ (h : Run). withRows (withLines h (set (run .lines) (a .line) (lineAt run a))) (set (run .rows) s y)) (same-cell (a .level) (a .register))
+        ap (λ (h : Run). withRows (withLines h (set (run .lines) (a .line) (lineAt run a))) (set (run .rows) s y)) (same-cell run (a .level) (a .register))
         ∙ ap (λ (ls : List Line). withRows (withLines run ls) (set (run .rows) s y)) (set-getD (run .lines) (a .line) unwritten)
 
     put-row-line : (y : Row) (x : Line) → putAll run s a (leaves y x (heldAt run a) did) ≡ withRows (withLines run (set (run .lines) (a .line) x)) (set (run .rows) s y)
-    put-row-line y x = ap (λ (h : Run). withRows (withLines h (set (run .lines) (a .line) x)) (set (run .rows) s y)) (same-cell (a .level) (a .register))
+    put-row-line y x = ap (λ (h : Run). withRows (withLines h (set (run .lines) (a .line) x)) (set (run .rows) s y)) (same-cell run (a .level) (a .register))
 
     put-row-cell : (y : Row) (x : ℕ) → putAll run s a (leaves y (lineAt run a) x did) ≡ withRows (withCell run (a .level) (a .register) x) (set (run .rows) s y)
     put-row-cell y x = ap (λ (ls : List Line). withRows (withLines (withCell run (a .level) (a .register) x) ls) (set (run .rows) s y)) (set-getD (run .lines) (a .line) unwritten)
