@@ -1,5 +1,10 @@
 -- Laws for the proofs of this crate.
 mod Filled
-mod Holding
+mod Placing
 mod Turns
+mod Within
+mod Record
+mod Calling
+mod Stepping
+mod Shape
 pub mod Orders

@@ -1,15 +1,23 @@
 -- A look through an order of turns for the first at which a test holds, and the record on the way.
 use Prim.Native.Nat.{ℕ, zero, suc, _+_, _-_, _≤_, _<_}
-use mathlib.Core.Path.{_≡_, refl, sym, ap, _∙_}
-use mathlib.Core.Bool.{Bool, true, false}
+use mathlib.Core.Path.{_≡_, refl, sym, ap, subst, _∙_}
+use mathlib.Core.Bool.{Bool, true, false, cond}
 use mathlib.Core.List.{List}
 use native.Mathlib.Numerals.{add-one}
 use native.Mathlib.Omega.{arith}
+use lib.Dec.{T as Holds, ltb}
 use lib.ListN.{length, getD}
+use Rattle.method.specs.declared.Line.{Line}
+use Rattle.method.specs.declared.Op.{Op}
+use Rattle.method.specs.declared.Op.the-variants.{Post, Write, Read, ReadLine, Rest}
+use Rattle.method.specs.declared.Did.the-variants.{Nobody}
 use Rattle.method.specs.declared.Run.{Run}
 use Rattle.method.specs.declared.Turned.{Turned}
+use Rattle.method.specs.Board.{rowOf, lineOf}
+use Rattle.method.specs.Steps.{nextOp}
+use Rattle.method.specs.Turn.{turned, readLine, perform, named, turn}
 use Rattle.board.specs.declared.playing.Played.{Played}
-use Rattle.board.specs.Step.{stepOf}
+use Rattle.board.specs.Step.{countEnd, stepOf}
 use Rattle.board.specs.Playing.{stepped, firstFrom, isUnwritten, unwrittenStep, stopsAt, playedOf}
 
 module _ (test : ℕ → Bool) where
@@ -77,3 +85,27 @@ module _ (run : Run) (turns : List ℕ) where
   steps-all now t s h =
       let end : firstFrom (unwrittenStep run turns) 0 (length turns) ≡ t = passed-all (unwrittenStep run turns) (s .passed) h in
       rw (end, s .state)
+
+-- a turn that would read a line never written leaves the record as it is
+module _ (run : Run) (i : ℕ) where
+  unwritten-read : (l : Line) (w : Bool) → isUnwritten (readLine run i l w .did) ≡ true → readLine run i l w .run ≡ run
+  unwritten-read l true e = absurd (subst (λ (z : Bool). Holds z) (sym e) tt)
+  unwritten-read l false e = refl
+
+  unwritten-op : (op : Op) → isUnwritten (perform run i op .did) ≡ true → perform run i op .run ≡ run
+  unfolding perform
+  unwritten-op (Post stocks) e = absurd (subst (λ (z : Bool). Holds z) (sym e) tt)
+  unwritten-op (Write k c j v) e = absurd (subst (λ (z : Bool). Holds z) (sym e) tt)
+  unwritten-op (Read k c j) e = absurd (subst (λ (z : Bool). Holds z) (sym e) tt)
+  unwritten-op (ReadLine j) e = unwritten-read (lineOf run j) (lineOf run j .written) e
+  unwritten-op Rest e = refl
+
+  pub unwritten-stays : isUnwritten (stepOf run i .did) ≡ true → stepOf run i .run ≡ run
+  unfolding stepOf turn
+  unwritten-stays = at (ltb (rowOf run i .count) countEnd) (named run i)
+    where
+      at : (x y : Bool) → isUnwritten (cond x (cond y (perform run i (nextOp i (rowOf run i .state))) (turned run Nobody)) (turned run Nobody) .did) ≡ true
+          → cond x (cond y (perform run i (nextOp i (rowOf run i .state))) (turned run Nobody)) (turned run Nobody) .run ≡ run
+      at true true e = unwritten-op (nextOp i (rowOf run i .state)) e
+      at true false e = refl
+      at false y e = refl

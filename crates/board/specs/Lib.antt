@@ -1,3 +1,4 @@
 -- What the board's contracts say beyond the method's own definitions.
 pub mod Step
+pub mod Places
 pub mod Playing

@@ -1,10 +1,10 @@
-// The run record: before the first turn, and one turn on it, by value.
+// The run record: before the first turn, and a turn and an order of turns on it, in place.
 
 // The number of levels, and the record before the first turn.
 pub mod start;
 
-// The registers and lines of the record.
-mod memory;
+// Where on the record a turn reads and writes.
+pub mod places;
 
 // One turn.
 pub mod turning;

@@ -1,6 +1,6 @@
 // An order of turns on the run record.
 ghost use mathlib.Core.Path.{_≡_};
-ghost use Rattle.board.specs.Playing.{isUnwritten, playedOf};
+ghost use Rattle.board.specs.Playing.{isUnwritten, stepped, stopsAt, playedOf};
 use super::turning;
 use method::Did;
 use method::Run;
@@ -22,27 +22,29 @@ fn is_unwritten(did: Did) -> bool
     }
 }
 
-// Every turn of the order, one after the other.
+// Every turn of the order, one after the other, in place, and how many were made.
+pub fn play(run: &mut Run, turns: &[u8]) -> usize
+    ensures { λ r. ⌜ (now (run .exit) ≡ stepped (now (run .entry)) (now (turns .entry)) (stopsAt (now (run .entry)) (now (turns .entry))))
+        × (r ≡ stopsAt (now (run .entry)) (now (turns .entry))) ⌝ }
+{
+    let mut t = 0;
+    while t < turns.len() {
+        if is_unwritten(turning::step(run, turns[t])) {
+            return t;
+        }
+        t += 1;
+    }
+    t
+}
+
+// The same for whoever hands the record over: no caller of this function lends it.
 pub fn play_out(run: Run, turns: &[u8]) -> Played
     ensures { λ r. ⌜ r ≡ playedOf run (now (turns .entry)) ⌝ }
 {
-    let mut current = run;
-    let mut t = 0;
-    while t < turns.len() {
-        let turned = turning::step(current, turns[t]);
-        let did = turned.did;
-        if is_unwritten(did) {
-            return Played {
-                run: current,
-                at: t,
-            };
-        }
-        let next = turned.run;
-        current = next;
-        t += 1;
-    }
+    let mut lent = run;
+    let at = play(&mut lent, turns);
     Played {
-        run: current,
-        at: t,
+        run: lent,
+        at: at,
     }
 }

@@ -1,111 +1,157 @@
-// One turn on the run record.
+// One turn on the run record, which its owner lends.
 ghost use mathlib.Core.Path.{_≡_};
-ghost use Prim.Native.Nat.{_≤_, _<_};
-ghost use Rattle.method.specs.Board.{rowOf};
-ghost use Rattle.method.specs.Turn.{goesOn, perform};
+ghost use mathlib.Core.Bool.{cond, _&&_};
 ghost use Rattle.board.specs.Step.{Seated, stepOf};
-use super::memory;
+ghost use Rattle.method.specs.declared.Did.the-variants.{Nobody};
+ghost use Rattle.board.specs.Places.{leaves, onward, made, madeOf};
+use super::places;
+use super::places::Aim;
 use method::Did;
+use method::Line;
 use method::Op;
 use method::Row;
 use method::Run;
-use method::Turned;
 
-// Station i's operation brought v: its row goes on.
-fn gone_on(run: Run, i: u8, v: u64) -> Run
-    requires { ⌜ Seated run i ⌝ }
-    ensures { λ r. ⌜ r ≡ goesOn run i v ⌝ }
-{
-    let at = (i - 1) as usize;
-    let row = run.rows[at];
-    let state = row.state;
-    let next = Row {
-        state: station::absorbed(run.depth, i, state, v),
-        count: row.count + 1,
-    };
-    let mut r = run;
-    r.rows[at] = next;
-    r
+// What a turn leaves in the station's row, and in the line and the register of its operation's place.
+pub struct Made {
+    pub row: Row,
+    pub line: Line,
+    pub set: u64,
+    pub did: Did,
 }
 
-// The station's operation is made.
-fn performed(run: Run, i: u8, op: Op) -> Turned
-    requires { ⌜ Seated run i ⌝ }
-    ensures { λ r. ⌜ r ≡ perform run i op ⌝ }
+// The row goes on with what station i's operation brought, and counts one turn more.
+fn gone_on(depth: u8, i: u8, row: Row, v: u64) -> Row
+    requires { ⌜ Seated i row ⌝ }
+    ensures { λ r. ⌜ r ≡ onward depth i row v ⌝ }
 {
+    let state = row.state;
+    Row {
+        state: station::absorbed(depth, i, state, v),
+        count: row.count + 1,
+    }
+}
+
+fn either(first: bool, a: u64, b: u64) -> u64
+    ensures { λ r. ⌜ r ≡ cond first a b ⌝ }
+{
+    if first { a } else { b }
+}
+
+// Whether a line can be read: it is on the record and has been written. An empty one that was written is as good as any.
+fn readable(on: bool, line: Line) -> bool
+    ensures { λ r. ⌜ r ≡ (on && line .written) ⌝ }
+{
+    if on { line.written } else { false }
+}
+
+// The operation is made, where the register and the line of its place hold these.
+fn performed(depth: u8, i: u8, row: Row, aim: Aim, held: u64, line: Line) -> Made
+    requires { ⌜ Seated i row ⌝ }
+    ensures { λ r. ⌜ r ≡ made depth i row held line (aim .on) (aim .op) ⌝ }
+{
+    let op = aim.op;
     match op {
-        Op::Post { stocks } => Turned {
-            run: gone_on(memory::put_line(run, i, stocks), i, 0),
+        Op::Post { stocks } => Made {
+            row: gone_on(depth, i, row, 0),
+            line: Line {
+                stocks: stocks,
+                written: true,
+            },
+            set: held,
             did: Did::Operation,
         },
         Op::Write {
-            level,
-            array,
-            register,
+            level: _,
+            array: _,
+            register: _,
             set,
-        } => Turned {
-            run: gone_on(memory::put_register(run, level, array, register, set), i, 0),
+        } => Made {
+            row: gone_on(depth, i, row, 0),
+            line: line,
+            set: either(aim.on, set, held),
             did: Did::Operation,
         },
         Op::Read {
-            level,
-            array,
-            register,
-        } => Turned {
-            run: gone_on(run, i, memory::register(run, level, array, register)),
+            level: _,
+            array: _,
+            register: _,
+        } => Made {
+            row: gone_on(depth, i, row, either(aim.on, held, 0)),
+            line: line,
+            set: held,
             did: Did::Operation,
         },
-        Op::ReadLine { station } => {
-            let line = memory::line(run, station);
-            if line.written {
-                Turned {
-                    run: gone_on(run, i, line.stocks),
+        Op::ReadLine { station: _ } => {
+            if readable(aim.on, line) {
+                Made {
+                    row: gone_on(depth, i, row, line.stocks),
+                    line: line,
+                    set: held,
                     did: Did::Operation,
                 }
             } else {
-                Turned {
-                    run: run,
+                Made {
+                    row: row,
+                    line: line,
+                    set: held,
                     did: Did::Unwritten,
                 }
             }
         }
-        Op::Rest => Turned {
-            run: run,
+        Op::Rest => Made {
+            row: row,
+            line: line,
+            set: held,
             did: Did::Idle,
         },
     }
 }
 
-// One turn of station i.
-pub fn step(run: Run, i: u8) -> Turned
-    ensures { λ r. ⌜ r ≡ stepOf run i ⌝ }
+// The turn makes nothing: its number is no station of the run.
+fn nothing_made(row: Row, held: u64, line: Line) -> Made
+    ensures { λ r. ⌜ r ≡ leaves row line held Nobody ⌝ }
+{
+    Made {
+        row: row,
+        line: line,
+        set: held,
+        did: Did::Nobody,
+    }
+}
+
+// The turn of station i of n, where its row, and the register and the line of its operation's place, hold these.
+pub fn made_by(n: u8, depth: u8, i: u8, row: Row, aim: Aim, held: u64, line: Line) -> Made
+    ensures { λ r. ⌜ r ≡ madeOf depth i row held line n aim ⌝ }
 {
     if i == 0 {
-        return Turned {
-            run: run,
-            did: Did::Nobody,
-        };
+        return nothing_made(row, held, line);
     }
-    if run.stations < i {
-        return Turned {
-            run: run,
-            did: Did::Nobody,
-        };
+    if n < i {
+        return nothing_made(row, held, line);
     }
     if 16 < i {
-        return Turned {
-            run: run,
-            did: Did::Nobody,
-        };
+        return nothing_made(row, held, line);
     }
-    let at = (i - 1) as usize;
-    let row = run.rows[at];
     if 65535 <= row.count {
-        return Turned {
-            run: run,
-            did: Did::Nobody,
-        };
+        return nothing_made(row, held, line);
     }
-    let state = row.state;
-    performed(run, i, station::next_op(i, state))
+    performed(depth, i, row, aim, held, line)
+}
+
+// One turn of station i, in place: it reads the station's row and what stands at the place of its next operation, and writes there and
+// in the row.
+pub fn step(run: &mut Run, i: u8) -> Did
+    ensures { λ r. ⌜ (now (run .exit) ≡ stepOf (now (run .entry)) i .run) × (r ≡ stepOf (now (run .entry)) i .did) ⌝ }
+{
+    let at = places::seat_of(i);
+    let row = run.rows[at];
+    let aim = places::aim_of(i, row);
+    let held = run.board[aim.level].sets[aim.register];
+    let line = run.lines[aim.line];
+    let left = made_by(run.stations, run.depth, i, row, aim, held, line);
+    run.board[aim.level].sets[aim.register] = left.set;
+    run.lines[aim.line] = left.line;
+    run.rows[at] = left.row;
+    left.did
 }
