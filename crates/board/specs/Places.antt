@@ -49,6 +49,41 @@ leaves r l v did = record { row = r; line = l; set = v; did = did }
 abbrev pub onward : ℕ → ℕ → Row → ℕ → Row
 onward N i r v = row (absorb N i (r .state) v) (r .count + 1)
 
+-- what an operation is, brings and leaves, where the line and the register of its place hold l and held, if they are on the record at all
+abbrev pub didOf : Bool → Line → Op → Did
+didOf on l (Post stocks) = Operation
+didOf on l (Write k c j v) = Operation
+didOf on l (Read k c j) = Operation
+didOf on l (ReadLine j) = cond (on && l .written) Operation Unwritten
+didOf on l Rest = Idle
+
+abbrev pub broughtOf : Bool → ℕ → Line → Op → ℕ
+broughtOf on held l (Post stocks) = 0
+broughtOf on held l (Write k c j v) = 0
+broughtOf on held l (Read k c j) = cond on held 0
+broughtOf on held l (ReadLine j) = l .stocks
+broughtOf on held l Rest = 0
+
+abbrev pub lineLeft : Line → Op → Line
+lineLeft l (Post stocks) = written stocks
+lineLeft l (Write k c j v) = l
+lineLeft l (Read k c j) = l
+lineLeft l (ReadLine j) = l
+lineLeft l Rest = l
+
+abbrev pub setLeft : Bool → ℕ → Op → ℕ
+setLeft on held (Post stocks) = held
+setLeft on held (Write k c j v) = cond on v held
+setLeft on held (Read k c j) = held
+setLeft on held (ReadLine j) = held
+setLeft on held Rest = held
+
+abbrev pub isOperation : Did → Bool
+isOperation Operation = true
+isOperation Idle = false
+isOperation Unwritten = false
+isOperation Nobody = false
+
 -- what the operation leaves in the station's row, in the line and in the register of its place, where these are r, l and held
 module _ (N i : ℕ) (r : Row) (held : ℕ) (l : Line) where
   unfoldable pub made : Bool → Op → Made

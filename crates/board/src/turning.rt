@@ -3,7 +3,7 @@ ghost use mathlib.Core.Path.{_≡_};
 ghost use mathlib.Core.Bool.{cond, _&&_};
 ghost use Rattle.board.specs.Step.{Seated, stepOf};
 ghost use Rattle.method.specs.declared.Did.the-variants.{Nobody};
-ghost use Rattle.board.specs.Places.{leaves, onward, made, madeOf};
+ghost use Rattle.board.specs.Places.{didOf, broughtOf, lineLeft, setLeft, isOperation, leaves, onward, made, madeOf};
 use super::places;
 use super::places::Aim;
 use method::Did;
@@ -45,66 +45,137 @@ fn readable(on: bool, line: Line) -> bool
     if on { line.written } else { false }
 }
 
+// What the operation is: it is made, or it would read a line that cannot be read, or there is none.
+fn did_of(on: bool, line: Line, op: Op) -> Did
+    ensures { λ r. ⌜ r ≡ didOf on line op ⌝ }
+{
+    match op {
+        Op::Post { stocks: _ } => Did::Operation,
+        Op::Write {
+            level: _,
+            array: _,
+            register: _,
+            set: _,
+        } => Did::Operation,
+        Op::Read {
+            level: _,
+            array: _,
+            register: _,
+        } => Did::Operation,
+        Op::ReadLine { station: _ } => {
+            if readable(on, line) {
+                Did::Operation
+            } else {
+                Did::Unwritten
+            }
+        }
+        Op::Rest => Did::Idle,
+    }
+}
+
+fn is_operation(did: Did) -> bool
+    ensures { λ r. ⌜ r ≡ isOperation did ⌝ }
+{
+    match did {
+        Did::Operation => true,
+        Did::Idle => false,
+        Did::Unwritten => false,
+        Did::Nobody => false,
+    }
+}
+
+// What the operation brings.
+fn brought(on: bool, held: u64, line: Line, op: Op) -> u64
+    ensures { λ r. ⌜ r ≡ broughtOf on held line op ⌝ }
+{
+    match op {
+        Op::Post { stocks: _ } => 0,
+        Op::Write {
+            level: _,
+            array: _,
+            register: _,
+            set: _,
+        } => 0,
+        Op::Read {
+            level: _,
+            array: _,
+            register: _,
+        } => either(on, held, 0),
+        Op::ReadLine { station: _ } => line.stocks,
+        Op::Rest => 0,
+    }
+}
+
+// What it leaves in the line of its place.
+fn line_left(line: Line, op: Op) -> Line
+    ensures { λ r. ⌜ r ≡ lineLeft line op ⌝ }
+{
+    match op {
+        Op::Post { stocks } => Line {
+            stocks: stocks,
+            written: true,
+        },
+        Op::Write {
+            level: _,
+            array: _,
+            register: _,
+            set: _,
+        } => line,
+        Op::Read {
+            level: _,
+            array: _,
+            register: _,
+        } => line,
+        Op::ReadLine { station: _ } => line,
+        Op::Rest => line,
+    }
+}
+
+// What it leaves in the register of its place.
+fn set_left(on: bool, held: u64, op: Op) -> u64
+    ensures { λ r. ⌜ r ≡ setLeft on held op ⌝ }
+{
+    match op {
+        Op::Post { stocks: _ } => held,
+        Op::Write {
+            level: _,
+            array: _,
+            register: _,
+            set,
+        } => either(on, set, held),
+        Op::Read {
+            level: _,
+            array: _,
+            register: _,
+        } => held,
+        Op::ReadLine { station: _ } => held,
+        Op::Rest => held,
+    }
+}
+
 // The operation is made, where the register and the line of its place hold these.
 fn performed(depth: u8, i: u8, row: Row, aim: Aim, held: u64, line: Line) -> Made
     requires { ⌜ Seated i row ⌝ }
     ensures { λ r. ⌜ r ≡ made depth i row held line (aim .on) (aim .op) ⌝ }
 {
     let op = aim.op;
-    match op {
-        Op::Post { stocks } => Made {
-            row: gone_on(depth, i, row, 0),
-            line: Line {
-                stocks: stocks,
-                written: true,
-            },
-            set: held,
-            did: Did::Operation,
-        },
-        Op::Write {
-            level: _,
-            array: _,
-            register: _,
-            set,
-        } => Made {
-            row: gone_on(depth, i, row, 0),
-            line: line,
-            set: either(aim.on, set, held),
-            did: Did::Operation,
-        },
-        Op::Read {
-            level: _,
-            array: _,
-            register: _,
-        } => Made {
-            row: gone_on(depth, i, row, either(aim.on, held, 0)),
-            line: line,
-            set: held,
-            did: Did::Operation,
-        },
-        Op::ReadLine { station: _ } => {
-            if readable(aim.on, line) {
-                Made {
-                    row: gone_on(depth, i, row, line.stocks),
-                    line: line,
-                    set: held,
-                    did: Did::Operation,
-                }
-            } else {
-                Made {
-                    row: row,
-                    line: line,
-                    set: held,
-                    did: Did::Unwritten,
-                }
-            }
-        }
-        Op::Rest => Made {
-            row: row,
-            line: line,
-            set: held,
-            did: Did::Idle,
-        },
+    let on = aim.on;
+    let did = did_of(on, line, op);
+    if is_operation(did) {
+        let next = gone_on(depth, i, row, brought(on, held, line, op));
+        let put = line_left(line, op);
+        return Made {
+            row: next,
+            line: put,
+            set: set_left(on, held, op),
+            did: did,
+        };
+    }
+    Made {
+        row: row,
+        line: line,
+        set: held,
+        did: did,
     }
 }
 

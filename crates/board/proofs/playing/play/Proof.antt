@@ -257,9 +257,9 @@ module _ {M : Type 1} (𝓤 : URA M) (H : Heap 𝓤) (A : Atoms 𝓤) (W : Given
         let same : stepOf r i .run ≡ r = unwritten-stays r i (sym told ∙ holds z stop-here) in
         assigns ! (of-opd ! (load ! (from ! (stop !)) (look ! 19 refl))) (from ! (stop !)) (init ! 25 refl (tt, record { fits = fits })) $
         move ! (0 ∷ 3 ∷ []) $ shuts-slice ! tt u8 q′ ys b₂ o₂ $
-            -- [the token of the turns; the reference; its token; what the turns own; _10; …; down to _0; …]
-            returns-within ! Post refl (look ! 24 refl) $ forget ! 24 refl $ forget ! 22 refl $ forget ! 20 refl $ forget ! 18 refl $ forget ! 16 refl $ forget ! 14 refl $ forget ! 12 refl $ forget ! 10 refl $ forget ! 8 refl $ forget ! 6 refl $ forget ! 4 refl $
-            move ! (24 ∷ 25 ∷ []) $ free1 ! $ move ! (22 ∷ 23 ∷ []) $ free1 ! $ move ! (20 ∷ 21 ∷ []) $ free1 ! $ move ! (18 ∷ 19 ∷ []) $ free1 ! $ move ! (16 ∷ 17 ∷ []) $ free1 ! $ move ! (14 ∷ 15 ∷ []) $ free1 ! $ move ! (12 ∷ 13 ∷ []) $ free1 ! $ move ! (10 ∷ 11 ∷ []) $ free1 ! $ move ! (8 ∷ 9 ∷ []) $ free1 ! $ move ! (6 ∷ 7 ∷ []) $ free1 ! $ move ! (4 ∷ 5 ∷ []) $ free1 ! $ free0 ! $
+        -- [the token of the turns; the reference; its token; what the turns own; _10; …; down to _0; …]
+        returns-within ! Post refl (look ! 24 refl) $ forget ! 24 refl $ forget ! 22 refl $ forget ! 20 refl $ forget ! 18 refl $ forget ! 16 refl $ forget ! 14 refl $ forget ! 12 refl $ forget ! 10 refl $ forget ! 8 refl $ forget ! 6 refl $ forget ! 4 refl $
+        move ! (24 ∷ 25 ∷ []) $ free1 ! $ move ! (22 ∷ 23 ∷ []) $ free1 ! $ move ! (20 ∷ 21 ∷ []) $ free1 ! $ move ! (18 ∷ 19 ∷ []) $ free1 ! $ move ! (16 ∷ 17 ∷ []) $ free1 ! $ move ! (14 ∷ 15 ∷ []) $ free1 ! $ move ! (12 ∷ 13 ∷ []) $ free1 ! $ move ! (10 ∷ 11 ∷ []) $ free1 ! $ move ! (8 ∷ 9 ∷ []) $ free1 ! $ move ! (6 ∷ 7 ∷ []) $ free1 ! $ move ! (4 ∷ 5 ∷ []) $ free1 ! $ free0 ! $
         by ! (exits (stepOf r i .run) t fits (ap (λ (y : Run). record { run = y; at = t }) same ∙ e)))
         (λ go-on.
         let next : Steps h ys (stepOf r i .run) (t + 1) = steps-more h ys r t (stepOf r i) z st tl refl told (fails z go-on) in
@@ -275,9 +275,9 @@ module _ {M : Type 1} (𝓤 : URA M) (H : Heap 𝓤) (A : Atoms 𝓤) (W : Given
         exec ! (𝓣 .C) (𝓣 .Λ) ((word, l0) ∷ (ref, l1) ∷ (slice, l2) ∷ (word, l3) ∷ (word, l4) ∷ (tyBool, l5) ∷ (tyBool, l6) ∷ (Dd′.mir, l7) ∷ (lent, l8) ∷ (tyPtr, l9) ∷ (tyInt w8, l10) ∷ []) rest (atRet ((word, l0) ∷ (ref, l1) ∷ (slice, l2) ∷ (word, l3) ∷ (word, l4) ∷ (tyBool, l5) ∷ (tyBool, l6) ∷ (Dd′.mir, l7) ∷ (lent, l8) ∷ (tyPtr, l9) ∷ (tyInt w8, l10) ∷ []) Post) $
         assigns ! (of-opd ! (load ! (from ! (stop !)) (look ! 19 refl))) (from ! (stop !)) (init ! 25 refl (tt, record { fits = fits })) $
         move ! (0 ∷ 3 ∷ []) $ shuts-slice ! tt u8 q′ ys b₂ o₂ $
-            -- [the token of the turns; the reference; its token; what the turns own; _10; …; down to _0; …]
-            returns ! (look ! 24 refl) $ forget ! 24 refl $ forget ! 22 refl $ forget ! 20 refl $ forget ! 18 refl $ forget ! 16 refl $ forget ! 14 refl $
-            move ! (24 ∷ 25 ∷ []) $ free1 ! $ move ! (22 ∷ 23 ∷ []) $ free1 ! $ move ! (20 ∷ 21 ∷ []) $ free1 ! $ move ! (18 ∷ 19 ∷ []) $ free1 ! $ move ! (16 ∷ 17 ∷ []) $ free1 ! $ move ! (14 ∷ 15 ∷ []) $ free1 ! $ move ! (12 ∷ 13 ∷ []) $ free1 ! $ move ! (10 ∷ 11 ∷ []) $ free1 ! $ move ! (8 ∷ 9 ∷ []) $ free1 ! $ move ! (6 ∷ 7 ∷ []) $ free1 ! $ move ! (4 ∷ 5 ∷ []) $ free1 ! $ free0 ! $
+        -- [the token of the turns; the reference; its token; what the turns own; _10; …; down to _0; …]
+        returns ! (look ! 24 refl) $ forget ! 24 refl $ forget ! 22 refl $ forget ! 20 refl $ forget ! 18 refl $ forget ! 16 refl $ forget ! 14 refl $
+        move ! (24 ∷ 25 ∷ []) $ free1 ! $ move ! (22 ∷ 23 ∷ []) $ free1 ! $ move ! (20 ∷ 21 ∷ []) $ free1 ! $ move ! (18 ∷ 19 ∷ []) $ free1 ! $ move ! (16 ∷ 17 ∷ []) $ free1 ! $ move ! (14 ∷ 15 ∷ []) $ free1 ! $ move ! (12 ∷ 13 ∷ []) $ free1 ! $ move ! (10 ∷ 11 ∷ []) $ free1 ! $ move ! (8 ∷ 9 ∷ []) $ free1 ! $ move ! (6 ∷ 7 ∷ []) $ free1 ! $ move ! (4 ∷ 5 ∷ []) $ free1 ! $ free0 ! $
         by ! (exits r t fits e))
         )) (h, 0)))))))))))))
 
