@@ -12,5 +12,6 @@ pub mod LineWays
 pub mod Later
 pub mod Celled
 pub mod Whole
+pub mod SameStocks
 pub mod Numbers
 pub mod Codes

@@ -8,4 +8,5 @@ pub mod Plan
 pub mod Window
 pub mod Hand
 pub mod Buffers
+pub mod Alike
 pub mod Worked
