@@ -13,5 +13,7 @@ pub mod Later
 pub mod Celled
 pub mod Whole
 pub mod SameStocks
+pub mod Outcomes
+pub mod Answers
 pub mod Numbers
 pub mod Codes

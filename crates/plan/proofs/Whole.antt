@@ -33,7 +33,7 @@ not-too-long text h = sym (ap (λ (t : Bool). sized t text) (le-leb (length text
 
 -- ---- nothing in hand
 
-zeros-at : (n j : ℕ) → getD (zeros n) j 0 ≡ 0
+pub zeros-at : (n j : ℕ) → getD (zeros n) j 0 ≡ 0
 zeros-at zero j = refl
 zeros-at (suc n) zero = refl
 zeros-at (suc n) (suc j) = zeros-at n j

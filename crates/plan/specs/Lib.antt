@@ -9,4 +9,5 @@ pub mod Window
 pub mod Hand
 pub mod Buffers
 pub mod Alike
+pub mod Sound
 pub mod Worked
