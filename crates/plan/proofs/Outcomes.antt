@@ -86,15 +86,15 @@ unfolding takeTurn Station numberOf
 turn-holds n ts f g =
     then-holds (Station n) (GoodTurns n) (station n f) (λ i. cond (ltb (length ts) mostTurns) (taken (ts ++ (i ∷ []))) (no MoreTurns)) (station-holds n f)
     (λ i s. cond-holds (GoodTurns n) (ltb (length ts) mostTurns) (taken (ts ++ (i ∷ []))) (no MoreTurns)
-      (λ t.
-        let room : length ts < mostTurns = ltb-true (length ts) mostTurns t in
-        let e : length (ts ++ (i ∷ [])) ≡ length ts + 1 = snoc-length ts i in
-        record
-        { most = omega arith
-        ; least = snoc-each 0 (λ x. 1 ≤ x) ts i (g .least) (s .0)
-        ; within = snoc-each 0 (λ x. x ≤ n) ts i (g .within) (s .1)
-        })
-      (λ t. (omega arith, omega arith)))
+    (λ t.
+    let room : length ts < mostTurns = ltb-true (length ts) mostTurns t in
+    let e : length (ts ++ (i ∷ [])) ≡ length ts + 1 = snoc-length ts i in
+    record {
+      most = omega arith;
+      least = snoc-each 0 (λ x. 1 ≤ x) ts i (g .least) (s .0);
+      within = snoc-each 0 (λ x. x ≤ n) ts i (g .within) (s .1);
+    })
+    (λ t. (omega arith, omega arith)))
 
 -- ---- codes
 
@@ -127,13 +127,13 @@ unfolding code numberOf
 code-holds f =
     cond-holds GoodCode (leb (length f) mostCode) (cond (empty (codeOf f)) (no NoCode) (taken (codeOf f))) (no NoCode)
     (λ t. cond-holds GoodCode (empty (codeOf f)) (no NoCode) (taken (codeOf f))
-      (λ e. (omega arith, omega arith))
-      (λ e.
-        record
-        { least = some (codeOf f) e
-        ; most = omega (arith, code-short f, leb-true (length f) mostCode t)
-        ; solid = code-solid f
-        }))
+    (λ e. (omega arith, omega arith))
+    (λ e.
+    record {
+      least = some (codeOf f) e;
+      most = omega (arith, code-short f, leb-true (length f) mostCode t);
+      solid = code-solid f;
+    }))
     (λ t. (omega arith, omega arith))
   where
     some : (c : List ℕ) → empty c ≡ false → 1 ≤ length c
@@ -171,16 +171,16 @@ with-stock s k m h l = or-lt m s (2 ^ k) h (pow-lt l)
 codes-more : (cs : List (List ℕ)) (c : List ℕ) → GoodCodes cs → GoodCode c → length cs < mostStocks → length cs ≤ stockOf c cs → GoodCodes (cs ++ (c ∷ []))
 codes-more cs c g good room new =
     let e : length (cs ++ (c ∷ [])) ≡ length cs + 1 = snoc-length cs c in
-    record
-    { most = omega arith
-    ; good = snoc-each [] GoodCode cs c (g .good) good
-    ; apart = λ i j l m.
-        let b : j ≤ length cs = omega arith in
-        let at-i : getD (cs ++ (c ∷ [])) i [] ≡ getD cs i [] = List·getD-append cs (c ∷ []) [] i (omega arith) in
-        ⊎-elim
-        (λ (q : j ≡ length cs). λ p. new-code c cs new i (omega arith) (sym at-i ∙ p ∙ getD-at cs c [] [] j (sym q)))
-        (λ (q : j < length cs). λ p. g .apart i j l q (sym at-i ∙ p ∙ List·getD-append cs (c ∷ []) [] j q))
-        (eq-or-lt-of-le b)
+    record {
+      most = omega arith;
+      good = snoc-each [] GoodCode cs c (g .good) good;
+      apart = λ i j l m.
+          let b : j ≤ length cs = omega arith in
+          let at-i : getD (cs ++ (c ∷ [])) i [] ≡ getD cs i [] = List·getD-append cs (c ∷ []) [] i (omega arith) in
+          ⊎-elim
+          (λ (q : j ≡ length cs). λ p. new-code c cs new i (omega arith) (sym at-i ∙ p ∙ getD-at cs c [] [] j (sym q)))
+          (λ (q : j < length cs). λ p. g .apart i j l q (sym at-i ∙ p ∙ List·getD-append cs (c ∷ []) [] j q))
+          (eq-or-lt-of-le b);
     }
 
 add-holds : (base : ℕ) (h : Holding) (c : List ℕ) → Grown base h → GoodCode c → Holds (Grown base) (addStock h c)
@@ -192,18 +192,18 @@ add-holds base h c g good =
     cond-holds (Grown base) (ltb k m) (taken (holding (h .codes) (withStock (h .set) k))) (cond (ltb k mostStocks) (taken (holding (h .codes ++ (c ∷ [])) (withStock (h .set) k))) (no MoreStocks))
     (λ t. record { codes = g .codes; known = with-stock (h .set) k m (g .known) (ltb-true k m t); grown = g .grown })
     (λ t.
-      let new : m ≤ k = ltb-false k m t in
-      cond-holds (Grown base) (ltb k mostStocks) (taken (holding (h .codes ++ (c ∷ [])) (withStock (h .set) k))) (no MoreStocks)
-      (λ u.
-        let room : k < mostStocks = ltb-true k mostStocks u in
-        let e : length (h .codes ++ (c ∷ [])) ≡ m + 1 = snoc-length (h .codes) c in
-        let wider : h .set < 2 ^ length (h .codes ++ (c ∷ [])) = lt-of-lt-of-le (g .known) (pow-mono (omega arith)) in
-        record
-        { codes = codes-more (h .codes) c (g .codes) good (omega arith) new
-        ; known = with-stock (h .set) k (length (h .codes ++ (c ∷ []))) wider (omega arith)
-        ; grown = let q : base ≤ m = g .grown in omega arith
-        })
-      (λ u. (omega arith, omega arith)))
+    let new : m ≤ k = ltb-false k m t in
+    cond-holds (Grown base) (ltb k mostStocks) (taken (holding (h .codes ++ (c ∷ [])) (withStock (h .set) k))) (no MoreStocks)
+    (λ u.
+    let room : k < mostStocks = ltb-true k mostStocks u in
+    let e : length (h .codes ++ (c ∷ [])) ≡ m + 1 = snoc-length (h .codes) c in
+    let wider : h .set < 2 ^ length (h .codes ++ (c ∷ [])) = lt-of-lt-of-le (g .known) (pow-mono (omega arith)) in
+    record {
+      codes = codes-more (h .codes) c (g .codes) good (omega arith) new;
+      known = with-stock (h .set) k (length (h .codes ++ (c ∷ []))) wider (omega arith);
+      grown = let q : base ≤ m = g .grown in omega arith;
+    })
+    (λ u. (omega arith, omega arith)))
 
 take-holds : (base : ℕ) (h : Holding) (f : List ℕ) → Grown base h → Holds (Grown base) (takeCode h f)
 unfolding takeCode
@@ -225,17 +225,17 @@ has-holds n s (f ∷ []) h g = (omega arith, omega arith)
 has-holds n s (f ∷ c ∷ cs) h g =
     then-holds (Station n) GoodStocks (station n f) _ (station-holds n f)
     (λ i st.
-      let start : Holding = holding (s .codes) (getD (s .sets) (i - 1) 0) in
-      let size : length (s .sets) ≡ mostStations = g .sets in
-      let inside : i - 1 < length (s .sets) = let a : 1 ≤ i = st .0 in let b : i ≤ n = st .1 in omega arith in
-      then-holds (Grown (length (s .codes))) GoodStocks (each takeCode start (c ∷ cs)) _
-      (each-holds (Grown (length (s .codes))) takeCode (take-holds (length (s .codes))) (c ∷ cs) start (record { codes = g .codes; known = g .known (i - 1); grown = omega arith }))
-      (λ t r.
-        record
-        { codes = r .codes
-        ; sets = length-set (s .sets) (i - 1) (t .set) ∙ g .sets
-        ; known = sets-known (s .sets) (i - 1) (t .set) (length (s .codes)) (length (t .codes)) inside (r .known) (r .grown) (g .known)
-        }))
+    let start : Holding = holding (s .codes) (getD (s .sets) (i - 1) 0) in
+    let size : length (s .sets) ≡ mostStations = g .sets in
+    let inside : i - 1 < length (s .sets) = let a : 1 ≤ i = st .0 in let b : i ≤ n = st .1 in omega arith in
+    then-holds (Grown (length (s .codes))) GoodStocks (each takeCode start (c ∷ cs)) _
+    (each-holds (Grown (length (s .codes))) takeCode (take-holds (length (s .codes))) (c ∷ cs) start (record { codes = g .codes; known = g .known (i - 1); grown = omega arith }))
+    (λ t r.
+    record {
+      codes = r .codes;
+      sets = length-set (s .sets) (i - 1) (t .set) ∙ g .sets;
+      known = sets-known (s .sets) (i - 1) (t .set) (length (s .codes)) (length (t .codes)) inside (r .known) (r .grown) (g .known);
+    }))
 
 turns-hold : (n : ℕ) (ts : List ℕ) (fs : List (List ℕ)) → GoodTurns n ts → Holds (GoodTurns n) (turnLine n ts fs)
 unfolding turnLine numberOf
@@ -264,16 +264,16 @@ later-holds h l g =
 
 fresh-sound : (n : ℕ) → 1 ≤ n → n ≤ mostStations → Sound (fresh n)
 fresh-sound n a b =
-    record
-    { some = a
-    ; most = b
-    ; stocks =
-        record
-        { codes = record { most = zero-le; good = λ j h. absurd (omega arith); apart = λ i j l h. absurd (omega arith) }
-        ; sets = length-replicate {A = ℕ} mostStations 0
-        ; known = λ i. let z : _≡_ {A = ℕ} (getD (replicate mostStations 0) i 0) 0 = zeros-at mostStations i in omega arith
-        }
-    ; turns = record { most = zero-le; least = λ j h. absurd (omega arith); within = λ j h. absurd (omega arith) }
+    record {
+      some = a;
+      most = b;
+      stocks =
+          record {
+            codes = record { most = zero-le; good = λ j h. absurd (omega arith); apart = λ i j l h. absurd (omega arith) };
+            sets = length-replicate {A = ℕ} mostStations 0;
+            known = λ i. let z : _≡_ {A = ℕ} (getD (replicate mostStations 0) i 0) 0 = zeros-at mostStations i in omega arith;
+          };
+      turns = record { most = zero-le; least = λ j h. absurd (omega arith); within = λ j h. absurd (omega arith) };
     }
 
 first-holds : (l : List ℕ) → Holds Sound (firstLine l)

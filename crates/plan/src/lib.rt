@@ -66,6 +66,7 @@ enum Line {
     Refused(Fault),
 }
 
+mod call;
 mod cells;
 mod code;
 mod lines;
