@@ -4,6 +4,10 @@ ghost use Rattle.plan.specs.Plan.{reading};
 ghost use Rattle.plan.specs.Buffers.{toldOf, setsAfter, codesAfter, lensAfter, turnsAfter};
 ghost use Rattle.plan.specs.Call.{returned, written};
 use super::Answer;
+use super::limits::CELLS;
+use super::limits::STATIONS;
+use super::limits::STOCKS;
+use super::limits::TURNS;
 use super::number_of;
 use super::read_plan;
 
@@ -11,10 +15,10 @@ use super::read_plan;
 #[no_mangle]
 pub extern "C" fn plan_read(
     text: &[u8],
-    sets: &mut [u64; 16],
-    codes: &mut [u8; 768],
-    lens: &mut [usize; 64],
-    turns: &mut [u8; 4096],
+    sets: &mut [u64; STATIONS],
+    codes: &mut [u8; CELLS],
+    lens: &mut [usize; STOCKS],
+    turns: &mut [u8; TURNS],
     told: &mut [usize; 3],
 ) -> u8
     ensures answer { λ r. ⌜ r ≡ returned (toldOf (reading (now (text .entry)))) ⌝ }
