@@ -10,20 +10,20 @@ use native.Mathlib.Nat.{eq-or-lt-of-le, lt-of-lt-of-le}
 use lib.ListN.{length, getD, take, set, replicate, length-append, length-take, length-set, length-replicate, List·getD-append}
 use lib.Seq.{getD-at, getD-set-same, getD-set-other}
 use lib.Dec.{leb, ltb, eqb}
-use lib.Pow.{pow-mono, pow-lt, pow-pos}
-use lib.Bits.{bitOr, or-lt}
+use lib.Pow.{pow-mono, pow-lt}
+use lib.Bits.{or-lt}
 use borrow.Author.Tests.{ltb-true, ltb-false, leb-true, eqb-true, eqb-false}
 use Rattle.plan.specs.Limits.{mostBytes, mostStations, mostStocks, mostTurns, mostCode}
 use Rattle.plan.specs.Text.{space, linesOf, fieldsOf, all, fine, run, runMore, same}
 use Rattle.plan.specs.Number.{empty, numberTo}
 use Rattle.plan.specs.Code.{before, codeOf, stockOf}
 use Rattle.plan.specs.Refusal.{numberOf}
-use Rattle.plan.specs.Plan.{Out, taken, no, then, each, stationIn, station, takeTurn, code, Holding, holding, withStock, stockAt, addStock, takeCode, Stocked, stocked, hasLine, turnLine, Held, held, fresh, wordOf, wordLine, laterFields, laterLine, gangIn, gangOf, firstLine, Reading, plan, refused, atLine, laterLines, allLines, sized, reading}
+use Rattle.plan.specs.Plan.{Out, taken, no, then, each, stationIn, station, takeTurn, code, Holding, holding, withStock, addStock, takeCode, Stocked, hasLine, turnLine, Held, fresh, wordOf, wordLine, laterFields, laterLine, gangIn, gangOf, firstLine, Reading, plan, refused, atLine, laterLines, allLines, sized, reading}
 use Rattle.plan.specs.Sound.{endsInSpace, GoodCode, GoodCodes, GoodStocks, GoodTurns, Sound, Outcome, planned, long, stopped}
 use Rattle.plan.specs.declared.Word.{Word}
 use Rattle.plan.specs.declared.Word.the-variants.{Has, Turn, Other}
 use Rattle.plan.specs.declared.Fault.{Fault}
-use Rattle.plan.specs.declared.Fault.the-variants.{LongText, NoGang, StrayByte, OtherWord, FewFields, NoStation, NoCode, MoreStocks, MoreTurns}
+use Rattle.plan.specs.declared.Fault.the-variants.{LongText, StrayByte, NoCode, MoreStocks, MoreTurns}
 use Rattle.plan.proofs.Codes.{code-front}
 use Rattle.plan.proofs.Pieces.{run-most}
 use Rattle.plan.proofs.Numbers.{number-most}

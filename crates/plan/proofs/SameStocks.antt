@@ -2,17 +2,15 @@
 -- are refused alike. The theorem is `same-reading`.
 use Prim.Native.Nat.{ℕ, zero, suc, _-_, _≤_}
 use mathlib.Core.Path.{_≡_, refl, sym, ap, _∙_}
-use mathlib.Core.Bool.{Bool, true, false, cond, _&&_, _||_, and-true, and-assoc}
+use mathlib.Core.Bool.{Bool, true, false, cond, _&&_, and-true, and-assoc}
 use mathlib.Core.List.{List, [], _∷_, _++_, append-assoc, append-nil}
-use native.Mathlib.Omega.{arith}
-use lib.ListN.{length, getD, set, replicate}
-use lib.Dec.{eqb, leb}
-use borrow.Author.Tests.{eqb-true, le-leb}
+use lib.ListN.{length, getD, set}
+use lib.Dec.{eqb}
+use borrow.Author.Tests.{le-leb}
 use Rattle.plan.specs.Limits.{mostBytes, mostCode}
 use Rattle.plan.specs.Text.{tab, space, onto, joined, parted, linesOf, fieldsOf, all, fine, same}
-use Rattle.plan.specs.Number.{empty}
 use Rattle.plan.specs.Code.{codeOf}
-use Rattle.plan.specs.Plan.{Out, taken, no, then, each, station, code, Holding, holding, addStock, takeCode, Stocked, stocked, hasLine, Held, wordOf, held, laterFields, laterLine, gangIn, gangOf, firstLine, Reading, atLine, laterLines, allLines, sized, reading, HAS, GANG}
+use Rattle.plan.specs.Plan.{Out, taken, no, then, each, station, code, Holding, holding, addStock, takeCode, Stocked, stocked, hasLine, Held, wordOf, held, laterFields, laterLine, gangIn, gangOf, firstLine, Reading, atLine, laterLines, allLines, reading, HAS}
 use Rattle.plan.specs.Alike.{spaces, Each, none, more, Respaced, Alike, same-line, has-lines}
 use Rattle.plan.specs.declared.Fault.the-variants.{StrayByte}
 use Rattle.plan.proofs.Codes.{code-space}

@@ -8,7 +8,7 @@ use lib.Dec.{eqb}
 use Rattle.plan.specs.Limits.{mostStations, mostStocks, mostTurns, mostCode}
 use Rattle.plan.specs.Text.{space, linesOf}
 use Rattle.plan.specs.Refusal.{numberOf}
-use Rattle.plan.specs.Plan.{Stocked, Held, Reading, plan, refused, reading}
+use Rattle.plan.specs.Plan.{Stocked, Held, plan, refused, reading}
 use Rattle.plan.specs.declared.Fault.{Fault}
 
 unfoldable pub endsInSpace : List ℕ → Bool

@@ -1,6 +1,5 @@
 // Scans over a slice from a place on.
 ghost use mathlib.Core.Path.{_≡_};
-ghost use mathlib.Core.Bool.{not};
 ghost use Prim.Native.Nat.{_+_};
 ghost use lib.ListN.{drop};
 ghost use Rattle.plan.specs.Text as Text;

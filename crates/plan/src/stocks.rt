@@ -1,7 +1,6 @@
 // `HAS`: a station, and each further field is a code. Codes in hand are places and lengths in the text, each with a key.
 ghost use mathlib.Core.Path.{_≡_};
 ghost use Prim.Native.Nat.{_+_, _≤_, _<_};
-ghost use lib.ListN.{length};
 ghost use Rattle.plan.specs.Limits.{mostStocks, mostCode};
 ghost use Rattle.plan.specs.Text as Text;
 ghost use Rattle.plan.specs.Code.{stockOf};

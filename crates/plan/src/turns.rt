@@ -1,6 +1,5 @@
 // `TURN`: each further field is a turn.
-ghost use Prim.Native.Nat.{_≤_};
-ghost use lib.ListN.{length, take};
+ghost use lib.ListN.{take};
 ghost use Rattle.plan.specs.Plan.{each, takeTurn, turnLine};
 ghost use Rattle.plan.specs.Window.{fieldsFrom};
 ghost use Rattle.plan.specs.Hand.{TurnsAt, TurnsRead};

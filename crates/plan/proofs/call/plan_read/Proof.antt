@@ -1,17 +1,11 @@
 -- `plan::call::plan_read` meets its contract: what it returns and writes is what the answer tells.
 -- Assumes nothing.
-use Prim.Native.Nat.{ℕ, suc, _+_, _-_, _*_, _≤_, _<_, _^_, _%_}
-use mathlib.Core.Path.{_≡_, refl, sym, ap, _∙_}
-use native.Mathlib.Omega.{arith}
+use mathlib.Core.Path.{sym, ap, _∙_}
 use borrow.Author.Needs.{needs}
 use Rattle.plan.specs.Refusal.{told}
 use Rattle.plan.specs.Call.{returned, written}
 use Rattle.plan.proofs.call.plan_read.Statement.{statement}
 use Rattle.plan.proofs.call.plan_read.Tie as tie
-use Rattle.plan.proofs.call.plan_read.Reads as reads
-use Rattle.plan.proofs.call.plan_read.Lts as lts
-use Rattle.plan.proofs.number_of.Reads as number-of-reads
-use Rattle.plan.proofs.read_plan.Reads as read-plan-reads
 
 read-plan-requires : tie.Need-read-plan-requires
 read-plan-requires c κs = search needs

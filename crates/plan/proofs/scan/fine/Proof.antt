@@ -2,13 +2,10 @@
 -- Assumes nothing.
 use mathlib.Core.Bool.{or-false}
 use native.Mathlib.Omega.{arith}
-use borrow.Author.Needs.{needs}
 use borrow.Author.Tests.{le-leb, lt-leb, ne-eqb}
 use lib.Dec.{eqb}
 use Rattle.plan.proofs.scan.fine.Statement.{statement}
 use Rattle.plan.proofs.scan.fine.Tie as tie
-use Rattle.plan.proofs.scan.fine.Reads as reads
-use Rattle.plan.proofs.scan.fine.Lts as lts
 
 returns : tie.Need-returns
 returns c = rw (lt-leb 32 (c .before .args .b) (c .if1 .taken), or-false (eqb (c .before .args .b) 9))
