@@ -110,6 +110,7 @@ held n s ts = record { stations = n; stocks = s; turns = ts }
 abbrev pub fresh : ℕ → Held
 fresh n = held n (stocked [] (replicate mostStations 0)) []
 
+-- the words, byte by byte
 abbrev pub GANG : List ℕ
 GANG = 71 ∷ 65 ∷ 78 ∷ 71 ∷ []
 
