@@ -1,15 +1,12 @@
 /* Compares the proved reader with the plain one: on random plans, half of them damaged, and on the vectors where they are given.
    plan_check SEED COUNT [VECTORS]    compares, and says how many were taken and how often each refusal was given
    plan_check figure WHICH            reads one text of 32,768 bytes with 4,096 turns, by the reader `ours` or `plain`, for callgrind */
+#include "plan.h"
 #include "plan_plain.h"
 
 #include <stdio.h>
 #include <stdlib.h>
 #include <string.h>
-
-/* The proved reader: crates/plan, `plan_read`. */
-unsigned char plan_read(const unsigned char *text, size_t size, uint64_t sets[16], unsigned char codes[768], size_t lens[64],
-                        unsigned char turns[4096], size_t told[3]);
 
 static uint64_t seed;
 
