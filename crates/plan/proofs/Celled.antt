@@ -5,8 +5,8 @@ use mathlib.Core.List.{List, [], _∷_, _++_, append-assoc, append-nil}
 use native.Mathlib.Omega.{arith}
 use native.Mathlib.Nat.{sub-zero, zero-sub, suc-sub-suc}
 use native.Mathlib.Numerals.{add-one}
-use lib.ListN.{length, getD, take, drop, set, replicate, length-append, length-replicate, replicate-append-replicate}
-use lib.Seq.{take-append-seam, drop-append-add, take-length, paste, paste-suc, length-paste}
+use lib.ListN.{length, getD, take, drop, set, length-append, length-replicate, replicate-append-replicate}
+use lib.Seq.{take-append-seam, drop-append-add, take-length, paste, paste-suc}
 use Rattle.plan.specs.Limits.{mostStocks, mostCode}
 use Rattle.plan.specs.Window.{part}
 use Rattle.plan.specs.Hand.{codeAt, codesIn, CellAt, CellsAt}

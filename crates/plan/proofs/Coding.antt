@@ -1,16 +1,15 @@
 -- A code field: over 12 bytes or blank it is refused, and else what is left of it is a code.
-use Prim.Native.Nat.{ℕ, zero, suc, _+_, _-_, _≤_, _<_}
+use Prim.Native.Nat.{ℕ, _+_, _-_, _≤_, _<_}
 use mathlib.Core.Path.{_≡_, refl, sym, ap, _∙_, subst}
-use mathlib.Core.Bool.{Bool, true, false, cond}
+use mathlib.Core.Bool.{true, false, cond}
 use mathlib.Core.List.{List, [], _∷_}
 use native.Mathlib.Omega.{arith}
-use lib.ListN.{length, take, drop, length-take}
-use lib.Dec.{leb}
+use lib.ListN.{length, take, length-take}
 use borrow.Author.Tests.{le-leb, lt-leb}
 use Rattle.plan.specs.Limits.{mostCode}
 use Rattle.plan.specs.Number.{empty}
 use Rattle.plan.specs.Code.{codeOf}
-use Rattle.plan.specs.Plan.{Out, taken, no, then, code, Holding, holding, addStock, takeCode}
+use Rattle.plan.specs.Plan.{Out, taken, no, code, Holding, holding, addStock, takeCode}
 use Rattle.plan.specs.Window.{part}
 use Rattle.plan.specs.Hand.{codesIn, Table, CodedRead}
 use Rattle.plan.specs.declared.Coded.{Coded}

@@ -1,10 +1,9 @@
 -- A loop over the fields of a line, whatever its step: the fields from the start give what the fields from here give with what is held so far.
-use Prim.Native.Nat.{ℕ, suc, _+_, _≤_, _<_}
-use mathlib.Core.Path.{_≡_, refl, sym, ap, _∙_}
+use Prim.Native.Nat.{ℕ, _+_, _≤_, _<_}
+use mathlib.Core.Path.{_≡_, sym, ap, _∙_}
 use mathlib.Core.Bool.{Bool, cond}
-use mathlib.Core.List.{List, [], _∷_}
+use mathlib.Core.List.{List, []}
 use lib.ListN.{length, take, drop}
-use lib.Dec.{leb}
 use borrow.Author.Tests.{le-leb, lt-leb}
 use Rattle.plan.specs.Text.{fieldsOf, run}
 use Rattle.plan.specs.Plan.{Out, taken, no, then, each}

@@ -1,18 +1,18 @@
 -- The loop over the lines: the lines from the start give what the lines from here give with what is held so far.
 use Prim.Native.Nat.{ℕ, zero, suc, _+_, _≤_, _<_, zero-le}
 use mathlib.Core.Path.{_≡_, refl, sym, ap, _∙_}
-use mathlib.Core.Bool.{Bool, true, false, not, cond, _&&_, false≢true}
-use mathlib.Core.List.{List, [], _∷_}
+use mathlib.Core.Bool.{true, false, not}
+use mathlib.Core.List.{List, []}
 use native.Mathlib.Omega.{arith}
 use native.Mathlib.Nat.{eq-or-lt-of-le}
 use native.Mathlib.Numerals.{add-one}
 use mathlib.Core.Logic.{⊎-elim}
 use lib.ListN.{length, getD, drop, drop-of-length-le}
 use lib.Dec.{ltb, eqb}
-use borrow.Author.Tests.{ltb-true, lt-ltb, eqb-true, eqb-false, eq-eqb, not-true, not-false}
-use Rattle.plan.specs.Text.{LF, parted, linesOf, fieldsOf, all, fine, run}
+use borrow.Author.Tests.{ltb-true, lt-ltb, eqb-true, eqb-false, not-true, not-false}
+use Rattle.plan.specs.Text.{LF, parted, linesOf, fine, run}
 use Rattle.plan.specs.Plan.{Out, taken, no, Held, fresh, laterFields, laterLine, firstLine, gangIn, gangOf, Reading, plan, refused, atLine, laterLines, allLines}
-use Rattle.plan.specs.Window.{part, fieldsFrom, strays}
+use Rattle.plan.specs.Window.{fieldsFrom, strays}
 use Rattle.plan.specs.declared.Fault.{Fault}
 use Rattle.plan.specs.declared.Fault.the-variants.{StrayByte, NoGang}
 use Rattle.plan.proofs.Runs.{both-true}

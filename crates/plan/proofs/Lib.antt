@@ -12,5 +12,8 @@ pub mod LineWays
 pub mod Later
 pub mod Celled
 pub mod Whole
+pub mod SameStocks
+pub mod Outcomes
+pub mod Answers
 pub mod Numbers
 pub mod Codes

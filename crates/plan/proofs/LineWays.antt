@@ -1,9 +1,8 @@
 -- A later line, by its word.
-use Prim.Native.Nat.{ℕ, zero, suc, _+_, _≤_, _<_}
-use mathlib.Core.Path.{_≡_, refl, sym, ap, _∙_, subst}
-use mathlib.Core.List.{List, [], _∷_}
-use native.Mathlib.Omega.{arith}
-use lib.ListN.{length, take, drop}
+use Prim.Native.Nat.{ℕ, _+_}
+use mathlib.Core.Path.{_≡_, sym, ap, _∙_, subst}
+use mathlib.Core.List.{List}
+use lib.ListN.{take, drop}
 use Rattle.plan.specs.Text.{run}
 use Rattle.plan.specs.Plan.{Out, taken, no, then, Stocked, stocked, hasLine, turnLine, Held, held, wordOf, wordLine, laterFields}
 use Rattle.plan.specs.Window.{part, noTab, fieldsFrom}

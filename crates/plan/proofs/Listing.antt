@@ -1,20 +1,20 @@
 -- The table of codes: what it stands for, looking a code up, and one more.
-use Prim.Native.Nat.{ℕ, zero, suc, _+_, _-_, _^_, _≤_, _<_}
+use Prim.Native.Nat.{ℕ, zero, suc, _+_, _-_, _≤_, _<_}
 use mathlib.Core.Path.{_≡_, refl, sym, ap, _∙_, subst}
-use mathlib.Core.Bool.{Bool, true, false, not, cond, _&&_, true≢false}
+use mathlib.Core.Bool.{Bool, true, false, not, true≢false}
 use mathlib.Core.List.{List, [], _∷_, _++_}
 use mathlib.Core.Logic.{⊎-elim}
 use native.Mathlib.Omega.{arith}
 use native.Mathlib.Nat.{eq-or-lt-of-le}
 use native.Mathlib.Numerals.{add-one}
-use lib.ListN.{length, getD, take, drop, set, length-append, length-set, List·getD-append}
+use lib.ListN.{length, getD, drop, set, length-append, length-set, List·getD-append}
 use lib.Seq.{getD-at, getD-set-same, getD-set-other}
-use lib.Dec.{eqb, ltb}
+use lib.Dec.{eqb}
 use borrow.Author.Tests.{eqb-true, eq-eqb, lt-ltb, le-ltb}
 use Rattle.plan.specs.Limits.{mostStocks, mostCode}
-use Rattle.plan.specs.Text.{run, same}
+use Rattle.plan.specs.Text.{same}
 use Rattle.plan.specs.Code.{stockOf}
-use Rattle.plan.specs.Plan.{Out, taken, no, Holding, holding, withStock, stockAt, addStock}
+use Rattle.plan.specs.Plan.{taken, no, holding, withStock, stockAt, addStock}
 use Rattle.plan.specs.Window.{part}
 use Rattle.plan.specs.Hand.{keyOn, codeAt, codesIn, Entry, Table, Listed, CodedRead}
 use Rattle.plan.specs.declared.Coded.the-variants.{Stocks, Refused}

@@ -1,16 +1,16 @@
 -- The value of a field as its digits are read.
-use Prim.Native.Nat.{ℕ, zero, suc, _+_, _-_, _*_, _≤_, _<_}
-use mathlib.Core.Path.{_≡_, refl, sym, ap, _∙_}
-use mathlib.Core.Bool.{Bool, true, false, cond, not, _&&_, _||_, and-false}
+use Prim.Native.Nat.{ℕ, _+_, _-_, _*_, _≤_, _<_}
+use mathlib.Core.Path.{_≡_, refl, ap, _∙_}
+use mathlib.Core.Bool.{Bool, true, false, cond, _&&_, and-false}
 use mathlib.Core.List.{List, [], _∷_}
 use native.Mathlib.Omega.{arith}
 use native.Mathlib.Nat.{zero-add}
 use lib.ListN.{length, getD, drop, drop-of-length-le}
 use lib.Seq.{drop-cons}
-use lib.Dec.{eqb, leb}
-use borrow.Author.Tests.{eq-eqb, ne-eqb, le-leb, lt-leb, leb-true, leb-false}
+use lib.Dec.{leb}
+use borrow.Author.Tests.{ne-eqb, le-leb, lt-leb, leb-true, leb-false}
 use Rattle.plan.specs.Text.{all}
-use Rattle.plan.specs.Number.{digit, valueOn, valueOf, numeral, empty, numberTo}
+use Rattle.plan.specs.Number.{digit, valueOn, valueOf, numeral, numberTo}
 use mathlib.Core.Bool.{and-true}
 use native.Mathlib.Nat.{le-trans}
 use native.Mathlib.Numerals.{add-one}

@@ -1,18 +1,17 @@
 -- The plan as a whole: nothing in hand at the start, and what the buffers hold at the end.
 use Prim.Native.Nat.{ℕ, zero, suc, _+_, _-_, _*_, _≤_, _<_, zero-le}
 use mathlib.Core.Path.{_≡_, refl, sym, ap, _∙_, subst}
-use mathlib.Core.Bool.{Bool, true, false}
+use mathlib.Core.Bool.{Bool}
 use mathlib.Core.List.{List, [], _∷_, _++_, map}
 use native.Mathlib.Omega.{arith}
-use lib.ListN.{length, getD, take, drop, replicate, length-append, length-drop, length-replicate, take-append-drop}
+use lib.ListN.{length, getD, take, drop, length-drop, length-replicate, take-append-drop}
 use lib.Seq.{getD-drop, take-suc, length-take-le}
-use lib.Dec.{leb}
 use borrow.Author.Tests.{le-leb, lt-leb}
 use Rattle.plan.specs.Limits.{mostBytes, mostStations, mostStocks, mostTurns, mostCode}
 use Rattle.plan.specs.Text.{linesOf}
-use Rattle.plan.specs.Refusal.{Told, counts, refusal, numberOf}
-use Rattle.plan.specs.Plan.{Held, Reading, plan, refused, allLines, sized, reading}
-use Rattle.plan.specs.Hand.{codeAt, codesIn, Table, TurnsIn, Hand, hand, heldOf, PlanIn, PlanRead, Clear, CellsAt}
+use Rattle.plan.specs.Refusal.{counts, refusal, numberOf}
+use Rattle.plan.specs.Plan.{Reading, plan, refused, allLines, sized, reading}
+use Rattle.plan.specs.Hand.{codeAt, codesIn, Hand, hand, heldOf, PlanIn, PlanRead, Clear, CellsAt}
 use Rattle.plan.specs.Buffers.{zeros, padded, cellsOf, toldOf, setsAfter, codesAfter, lensAfter, turnsAfter}
 use Rattle.plan.specs.declared.Fault.{Fault}
 use Rattle.plan.specs.declared.Fault.the-variants.{LongText}
@@ -33,7 +32,7 @@ not-too-long text h = sym (ap (λ (t : Bool). sized t text) (le-leb (length text
 
 -- ---- nothing in hand
 
-zeros-at : (n j : ℕ) → getD (zeros n) j 0 ≡ 0
+pub zeros-at : (n j : ℕ) → getD (zeros n) j 0 ≡ 0
 zeros-at zero j = refl
 zeros-at (suc n) zero = refl
 zeros-at (suc n) (suc j) = zeros-at n j

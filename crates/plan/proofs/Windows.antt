@@ -1,17 +1,16 @@
 -- The window: the fields of a line and the lines of the text from a place on are the first one and those behind it.
 use Prim.Native.Nat.{ℕ, zero, suc, _+_, _-_, _≤_, _<_}
-use mathlib.Core.Path.{_≡_, refl, sym, ap, _∙_, subst}
-use mathlib.Core.Bool.{Bool, true, false, cond, not}
+use mathlib.Core.Path.{_≡_, refl, sym, ap, _∙_}
+use mathlib.Core.Bool.{Bool, true, false, cond}
 use mathlib.Core.List.{List, [], _∷_}
 use mathlib.Core.Logic.{⊎-elim}
 use native.Mathlib.Omega.{arith}
 use native.Mathlib.Nat.{sub-zero, zero-sub, suc-sub-suc, eq-or-lt-of-le}
-use native.Mathlib.Numerals.{add-one}
 use lib.ListN.{length, getD, take, drop, length-take, length-drop, drop-of-length-le}
-use lib.Seq.{take-nil, take-take, take-all, drop-drop, drop-nil, drop-cons, getD-drop, getD-take, length-take-le}
+use lib.Seq.{take-nil, take-take, take-all, drop-drop, getD-drop, getD-take, length-take-le}
 use lib.Dec.{leb, eqb}
-use borrow.Author.Tests.{eq-eqb, le-leb, lt-leb, eqb-true, not-false}
-use Rattle.plan.specs.Text.{LF, tab, onto, parted, linesOf, fieldsOf, all, fine, run}
+use borrow.Author.Tests.{le-leb, lt-leb, eqb-true, not-false}
+use Rattle.plan.specs.Text.{LF, tab, parted, linesOf, fieldsOf, all, fine, run}
 use Rattle.plan.specs.Window.{part, noTab, fieldsFrom}
 use Rattle.plan.proofs.Pieces.{run-most, run-passes, run-fails, cut, whole, strays}
 

@@ -8,4 +8,7 @@ pub mod Plan
 pub mod Window
 pub mod Hand
 pub mod Buffers
+pub mod Call
+pub mod Alike
+pub mod Sound
 pub mod Worked

@@ -1,10 +1,10 @@
 -- The plan: its lines from the top, the fields of a line from the left. The first refusal ends it.
 -- Executable, in the words of document 01, "The plan text".
 use Prim.Native.Nat.{ℕ, zero, suc, _-_, _^_}
-use mathlib.Core.Bool.{Bool, true, false, cond, _&&_}
+use mathlib.Core.Bool.{Bool, true, false, cond}
 use mathlib.Core.List.{List, [], _∷_, _++_}
 use lib.ListN.{length, getD, set, replicate}
-use lib.Dec.{leb, ltb, eqb}
+use lib.Dec.{leb, ltb}
 use lib.Bits.{bitOr}
 use Rattle.plan.specs.Limits.{mostBytes, mostStations, mostStocks, mostTurns, mostCode}
 use Rattle.plan.specs.Text.{linesOf, fieldsOf, all, fine, same}
@@ -110,6 +110,7 @@ held n s ts = record { stations = n; stocks = s; turns = ts }
 abbrev pub fresh : ℕ → Held
 fresh n = held n (stocked [] (replicate mostStations 0)) []
 
+-- the words, byte by byte
 abbrev pub GANG : List ℕ
 GANG = 71 ∷ 65 ∷ 78 ∷ 71 ∷ []
 

@@ -1,7 +1,7 @@
 -- Plans worked by hand, computed from the definitions: document 01's example, its case I, and a row for each refusal and each reading
 -- of an odd text. A plan taken shows n, the codes, the sets of the first three stations and the turns.
-use Prim.Native.Nat.{ℕ, zero, suc}
-use Prim.Native.Char.{Char, code}
+use Prim.Native.Nat.{ℕ}
+use Prim.Native.Char.{code}
 use Prim.Native.String.{String, [] as ends, _∷_ as _then_}
 use mathlib.Core.Path.{_≡_, refl}
 use mathlib.Core.List.{List, [], _∷_, map}
@@ -10,7 +10,7 @@ use Rattle.plan.specs.Text.{parted, all, run, same}
 use Rattle.plan.specs.Number.{valueOn, numberTo}
 use Rattle.plan.specs.Code.{codeOf}
 use Rattle.plan.specs.Refusal.{numberOf}
-use Rattle.plan.specs.Plan.{Held, Reading, plan, refused, each, station, takeTurn, takeCode, addStock, wordOf, hasLine, turnLine, laterLine, gangOf, firstLine, laterLines, reading}
+use Rattle.plan.specs.Plan.{Reading, plan, refused, each, station, takeTurn, takeCode, addStock, wordOf, hasLine, turnLine, laterLine, gangOf, firstLine, laterLines, reading}
 use Rattle.plan.specs.Plan as Plan
 
 abbrev bytes : String → List ℕ

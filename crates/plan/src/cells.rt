@@ -6,9 +6,12 @@ ghost use Rattle.plan.specs.Limits.{mostStocks, mostCode};
 ghost use Rattle.plan.specs.Window.{part};
 ghost use Rattle.plan.specs.Hand.{codesIn, CellAt, CellsAt};
 ghost use Rattle.plan.specs.Buffers.{padded, cellsOf};
+use super::limits::CELLS;
+use super::limits::CODE;
+use super::limits::STOCKS;
 
 // The `len` bytes of the text from `from` on, to place `at` of the cells.
-fn put_code(text: &[u8], from: usize, len: usize, at: usize, cells: &mut [u8; 768])
+fn put_code(text: &[u8], from: usize, len: usize, at: usize, cells: &mut [u8; CELLS])
     requires { ⌜ CellAt (now text) from len at (now cells) ⌝ }
     ensures { λ _. ⌜ now (cells .exit) ≡ paste (now (cells .entry)) at (part (now (text .entry)) from (from + len)) len ⌝ }
 {
@@ -20,12 +23,12 @@ fn put_code(text: &[u8], from: usize, len: usize, at: usize, cells: &mut [u8; 76
 }
 
 // The codes of the table, in their order.
-pub fn put_codes(
+pub(super) fn put_codes(
     text: &[u8],
-    starts: &[usize; 64],
-    lens: &[usize; 64],
+    starts: &[usize; STOCKS],
+    lens: &[usize; STOCKS],
     count: usize,
-    cells: &mut [u8; 768],
+    cells: &mut [u8; CELLS],
 )
     requires { ⌜ CellsAt (now text) (now starts) (now lens) count (now cells) ⌝ }
     ensures { λ _. ⌜ now (cells .exit) ≡ padded (mostStocks * mostCode) (cellsOf (codesIn (now (text .entry)) (now (starts .entry)) (now (lens .entry)) count)) ⌝ }
@@ -34,7 +37,7 @@ pub fn put_codes(
     while k < count {
         let from = starts[k];
         let len = lens[k];
-        put_code(text, from, len, k * 12, cells);
+        put_code(text, from, len, k * CODE, cells);
         k += 1;
     }
 }

@@ -5,12 +5,12 @@ ghost use Rattle.plan.specs.Code.{codeOf};
 ghost use Rattle.plan.specs.Hand.{keyOn};
 
 // How many bytes of the field are left without the spaces at its end.
-pub fn code_len(field: &[u8]) -> usize
+pub(super) fn code_len(field: &[u8]) -> usize
     ensures { λ r. ⌜ r ≡ length (codeOf (now (field .entry))) ⌝ }
 {
     let mut n = field.len();
     while n > 0 {
-        if field[n - 1] != 32 {
+        if field[n - 1] != b' ' {
             return n;
         }
         n -= 1;
@@ -19,7 +19,7 @@ pub fn code_len(field: &[u8]) -> usize
 }
 
 // The key of a code: its last eight bytes.
-pub fn key_of(code: &[u8]) -> u64
+pub(super) fn key_of(code: &[u8]) -> u64
     ensures { λ r. ⌜ r ≡ keyOn 0 (now (code .entry)) ⌝ }
 {
     let mut key: u64 = 0;

@@ -4,6 +4,11 @@ ghost use Rattle.plan.specs.Refusal.{numberOf, told};
 ghost use Rattle.plan.specs.Plan.{reading};
 ghost use Rattle.plan.specs.Buffers.{toldOf, setsAfter, codesAfter, lensAfter, turnsAfter};
 use cells::put_codes;
+use limits::BYTES;
+use limits::CELLS;
+use limits::STATIONS;
+use limits::STOCKS;
+use limits::TURNS;
 use lines::all_lines;
 
 // The rows of document 01's table, each with its number there.
@@ -66,8 +71,10 @@ enum Line {
     Refused(Fault),
 }
 
+mod call;
 mod cells;
 mod code;
+pub mod limits;
 mod lines;
 mod number;
 mod scan;
@@ -96,10 +103,10 @@ pub fn number_of(fault: Fault) -> u8
 // these are copied out at the end.
 pub fn read_plan(
     text: &[u8],
-    sets: &mut [u64; 16],
-    codes: &mut [u8; 768],
-    lens: &mut [usize; 64],
-    turns: &mut [u8; 4096],
+    sets: &mut [u64; STATIONS],
+    codes: &mut [u8; CELLS],
+    lens: &mut [usize; STOCKS],
+    turns: &mut [u8; TURNS],
 ) -> Answer
     ensures answer { λ r. ⌜ told r ≡ toldOf (reading (now (text .entry))) ⌝ }
     ensures sets { λ _. ⌜ now (sets .exit) ≡ setsAfter (reading (now (text .entry))) (now (sets .entry)) ⌝ }
@@ -107,18 +114,18 @@ pub fn read_plan(
     ensures lens { λ _. ⌜ now (lens .exit) ≡ lensAfter (reading (now (text .entry))) (now (lens .entry)) ⌝ }
     ensures turns { λ _. ⌜ now (turns .exit) ≡ turnsAfter (reading (now (text .entry))) (now (turns .entry)) ⌝ }
 {
-    if text.len() > 32768 {
+    if text.len() > BYTES {
         return Answer::Refused {
             fault: Fault::LongText,
             place: 0,
         };
     }
-    let mut own_sets = [0u64; 16];
-    let mut own_starts = [0usize; 64];
-    let mut own_lens = [0usize; 64];
-    let mut own_keys = [0u64; 64];
-    let mut own_turns = [0u8; 4096];
-    let mut cells = [0u8; 768];
+    let mut own_sets = [0u64; STATIONS];
+    let mut own_starts = [0usize; STOCKS];
+    let mut own_lens = [0usize; STOCKS];
+    let mut own_keys = [0u64; STOCKS];
+    let mut own_turns = [0u8; TURNS];
+    let mut cells = [0u8; CELLS];
     let r = all_lines(
         text,
         &mut own_sets,

@@ -12,6 +12,10 @@ use super::Counted;
 use super::Fault;
 use super::Line;
 use super::Word;
+use super::limits::LAST_STATION;
+use super::limits::STATIONS;
+use super::limits::STOCKS;
+use super::limits::TURNS;
 use super::number::number;
 use super::scan::field_end;
 use super::scan::line_end;
@@ -24,7 +28,7 @@ fn strays(text: &[u8], end: usize) -> bool
     ensures { λ r. ⌜ r ≡ Window.strays (now (text .entry)) end ⌝ }
 {
     if end < text.len() {
-        text[end] != 10
+        text[end] != b'\n'
     } else {
         false
     }
@@ -57,7 +61,7 @@ fn gang(text: &[u8], end: usize) -> u8
         if f < end {
             return 0;
         }
-        return number(&text[e + 1..f], 16);
+        return number(&text[e + 1..f], LAST_STATION);
     }
     0
 }
@@ -70,11 +74,11 @@ fn later_line(
     n: u8,
     stocks: usize,
     turned: usize,
-    sets: &mut [u64; 16],
-    starts: &mut [usize; 64],
-    lens: &mut [usize; 64],
-    keys: &mut [u64; 64],
-    turns: &mut [u8; 4096],
+    sets: &mut [u64; STATIONS],
+    starts: &mut [usize; STOCKS],
+    lens: &mut [usize; STOCKS],
+    keys: &mut [u64; STOCKS],
+    turns: &mut [u8; TURNS],
 ) -> Line
     requires { ⌜ LineAt (now text) at end n (hand (now sets) (now starts) (now lens) (now keys) (now turns)) stocks turned ⌝ }
     ensures { λ r. ⌜ LineRead r (now (text .entry)) n (hand (now (sets .exit)) (now (starts .exit)) (now (lens .exit)) (now (keys .exit)) (now (turns .exit))) (laterFields (heldOf (now (text .entry)) n (hand (now (sets .entry)) (now (starts .entry)) (now (lens .entry)) (now (keys .entry)) (now (turns .entry))) stocks turned) (fieldsFrom (now (text .entry)) at end)) ⌝ }
@@ -111,11 +115,11 @@ fn later_lines(
     text: &[u8],
     from: usize,
     n: u8,
-    sets: &mut [u64; 16],
-    starts: &mut [usize; 64],
-    lens: &mut [usize; 64],
-    keys: &mut [u64; 64],
-    turns: &mut [u8; 4096],
+    sets: &mut [u64; STATIONS],
+    starts: &mut [usize; STOCKS],
+    lens: &mut [usize; STOCKS],
+    keys: &mut [u64; STOCKS],
+    turns: &mut [u8; TURNS],
 ) -> Answer
     requires { ⌜ PlanIn (now text) n (hand (now sets) (now starts) (now lens) (now keys) (now turns)) 0 0 ⌝ }
     ensures { λ r. ⌜ PlanRead r (now (text .entry)) (hand (now (sets .exit)) (now (starts .exit)) (now (lens .exit)) (now (keys .exit)) (now (turns .exit))) (laterLines 2 (heldOf (now (text .entry)) n (hand (now (sets .entry)) (now (starts .entry)) (now (lens .entry)) (now (keys .entry)) (now (turns .entry))) 0 0) (linesOf (drop from (now (text .entry))))) ⌝ }
@@ -172,13 +176,13 @@ fn later_lines(
 }
 
 // All lines, into buffers that hold nothing yet.
-pub fn all_lines(
+pub(super) fn all_lines(
     text: &[u8],
-    sets: &mut [u64; 16],
-    starts: &mut [usize; 64],
-    lens: &mut [usize; 64],
-    keys: &mut [u64; 64],
-    turns: &mut [u8; 4096],
+    sets: &mut [u64; STATIONS],
+    starts: &mut [usize; STOCKS],
+    lens: &mut [usize; STOCKS],
+    keys: &mut [u64; STOCKS],
+    turns: &mut [u8; TURNS],
 ) -> Answer
     requires { ⌜ Clear (now text) (hand (now sets) (now starts) (now lens) (now keys) (now turns)) ⌝ }
     ensures { λ r. ⌜ PlanRead r (now (text .entry)) (hand (now (sets .exit)) (now (starts .exit)) (now (lens .exit)) (now (keys .exit)) (now (turns .exit))) (allLines (linesOf (now (text .entry)))) ⌝ }

@@ -1,6 +1,5 @@
 // Scans over a slice from a place on.
 ghost use mathlib.Core.Path.{_≡_};
-ghost use mathlib.Core.Bool.{not};
 ghost use Prim.Native.Nat.{_+_};
 ghost use lib.ListN.{drop};
 ghost use Rattle.plan.specs.Text as Text;
@@ -11,14 +10,14 @@ ghost use Rattle.plan.specs.Window.{noTab};
 fn fine(b: u8) -> bool
     ensures { λ r. ⌜ r ≡ Text.fine b ⌝ }
 {
-    if b < 32 {
-        return b == 9;
+    if b < b' ' {
+        return b == b'\t';
     }
-    b < 127
+    b <= b'~'
 }
 
 // Where the bytes that a line may hold end, from `at` on: at the line's end, if the line holds no other.
-pub fn line_end(text: &[u8], at: usize) -> usize
+pub(super) fn line_end(text: &[u8], at: usize) -> usize
     ensures { λ r. ⌜ r ≡ at + run Text.fine (drop at (now (text .entry))) ⌝ }
 {
     let mut i = at;
@@ -33,12 +32,12 @@ pub fn line_end(text: &[u8], at: usize) -> usize
 }
 
 // Where the field at `at` ends: at its tab, or at the line's end.
-pub fn field_end(line: &[u8], at: usize) -> usize
+pub(super) fn field_end(line: &[u8], at: usize) -> usize
     ensures { λ r. ⌜ r ≡ at + run noTab (drop at (now (line .entry))) ⌝ }
 {
     let mut i = at;
     while i < line.len() {
-        if line[i] == 9 {
+        if line[i] == b'\t' {
             return i;
         }
         i += 1;
@@ -47,7 +46,7 @@ pub fn field_end(line: &[u8], at: usize) -> usize
 }
 
 // Whether two slices hold the same bytes.
-pub fn same(a: &[u8], b: &[u8]) -> bool
+pub(super) fn same(a: &[u8], b: &[u8]) -> bool
     ensures { λ r. ⌜ r ≡ Text.same (now (a .entry)) (now (b .entry)) ⌝ }
 {
     if a.len() != b.len() {

@@ -1,7 +1,7 @@
 // `HAS`: a station, and each further field is a code. Codes in hand are places and lengths in the text, each with a key.
 ghost use mathlib.Core.Path.{_≡_};
 ghost use Prim.Native.Nat.{_+_, _≤_, _<_};
-ghost use lib.ListN.{length};
+ghost use Rattle.plan.specs.Limits.{mostStocks, mostCode};
 ghost use Rattle.plan.specs.Text as Text;
 ghost use Rattle.plan.specs.Code.{stockOf};
 ghost use Rattle.plan.specs.Plan.{each, holding, withStock, addStock, takeCode, stocked, hasLine};
@@ -12,13 +12,16 @@ use super::Counted;
 use super::Fault;
 use super::code::code_len;
 use super::code::key_of;
+use super::limits::CODE;
+use super::limits::STATIONS;
+use super::limits::STOCKS;
 use super::number::number;
 use super::scan::field_end;
 use super::scan::same;
 
 // The set with stock k.
 fn with_stock(set: u64, k: usize) -> u64
-    requires { ⌜ k < 64 ⌝ }
+    requires { ⌜ k < mostStocks ⌝ }
     ensures { λ r. ⌜ r ≡ withStock set k ⌝ }
 {
     set | 1u64 << k
@@ -31,9 +34,9 @@ fn is_stock(
     end: usize,
     key: u64,
     j: usize,
-    starts: &[usize; 64],
-    lens: &[usize; 64],
-    keys: &[u64; 64],
+    starts: &[usize; STOCKS],
+    lens: &[usize; STOCKS],
+    keys: &[u64; STOCKS],
 ) -> bool
     requires { ⌜ Beside (now text) at end key (now starts) (now lens) (now keys) j ⌝ }
     ensures { λ r. ⌜ r ≡ Text.same (part (now (text .entry)) at end) (codeAt (now (text .entry)) (now (starts .entry)) (now (lens .entry)) j) ⌝ }
@@ -53,9 +56,9 @@ fn stock_of(
     end: usize,
     key: u64,
     count: usize,
-    starts: &[usize; 64],
-    lens: &[usize; 64],
-    keys: &[u64; 64],
+    starts: &[usize; STOCKS],
+    lens: &[usize; STOCKS],
+    keys: &[u64; STOCKS],
 ) -> usize
     requires { ⌜ Known (now text) at end key (now starts) (now lens) (now keys) count ⌝ }
     ensures { λ r. ⌜ r ≡ stockOf (part (now (text .entry)) at end) (codesIn (now (text .entry)) (now (starts .entry)) (now (lens .entry)) count) ⌝ }
@@ -77,12 +80,12 @@ fn add_stock(
     end: usize,
     count: usize,
     set: u64,
-    starts: &mut [usize; 64],
-    lens: &mut [usize; 64],
-    keys: &mut [u64; 64],
+    starts: &mut [usize; STOCKS],
+    lens: &mut [usize; STOCKS],
+    keys: &mut [u64; STOCKS],
 ) -> Coded
     requires { ⌜ Listed (now text) at end (now starts) (now lens) (now keys) count ⌝ }
-    requires { ⌜ end ≤ at + 12 ⌝ }
+    requires { ⌜ end ≤ at + mostCode ⌝ }
     ensures { λ r. ⌜ CodedRead r (now (text .entry)) (now (starts .exit)) (now (lens .exit)) (now (keys .exit)) (addStock (holding (codesIn (now (text .entry)) (now (starts .entry)) (now (lens .entry)) count) set) (part (now (text .entry)) at end)) ⌝ }
 {
     let key = key_of(&text[at..end]);
@@ -93,7 +96,7 @@ fn add_stock(
             set: with_stock(set, j),
         };
     }
-    if count >= 64 {
+    if count >= STOCKS {
         return Coded::Refused(Fault::MoreStocks);
     }
     starts[count] = at;
@@ -112,14 +115,14 @@ fn take_code(
     end: usize,
     count: usize,
     set: u64,
-    starts: &mut [usize; 64],
-    lens: &mut [usize; 64],
-    keys: &mut [u64; 64],
+    starts: &mut [usize; STOCKS],
+    lens: &mut [usize; STOCKS],
+    keys: &mut [u64; STOCKS],
 ) -> Coded
     requires { ⌜ Listed (now text) at end (now starts) (now lens) (now keys) count ⌝ }
     ensures { λ r. ⌜ CodedRead r (now (text .entry)) (now (starts .exit)) (now (lens .exit)) (now (keys .exit)) (takeCode (holding (codesIn (now (text .entry)) (now (starts .entry)) (now (lens .entry)) count) set) (part (now (text .entry)) at end)) ⌝ }
 {
-    if end - at > 12 {
+    if end - at > CODE {
         return Coded::Refused(Fault::NoCode);
     }
     let n = code_len(&text[at..end]);
@@ -136,9 +139,9 @@ fn codes_from(
     end: usize,
     count: usize,
     set: u64,
-    starts: &mut [usize; 64],
-    lens: &mut [usize; 64],
-    keys: &mut [u64; 64],
+    starts: &mut [usize; STOCKS],
+    lens: &mut [usize; STOCKS],
+    keys: &mut [u64; STOCKS],
 ) -> Coded
     requires { ⌜ CodesAt (now text) end (now starts) (now lens) (now keys) count ⌝ }
     ensures { λ r. ⌜ CodedRead r (now (text .entry)) (now (starts .exit)) (now (lens .exit)) (now (keys .exit)) (each takeCode (holding (codesIn (now (text .entry)) (now (starts .entry)) (now (lens .entry)) count) set) (fieldsFrom (now (text .entry)) at end)) ⌝ }
@@ -167,16 +170,16 @@ fn codes_from(
 }
 
 // The fields of a `HAS` line behind its word.
-pub fn has_line(
+pub(super) fn has_line(
     text: &[u8],
     at: usize,
     end: usize,
     n: u8,
     count: usize,
-    sets: &mut [u64; 16],
-    starts: &mut [usize; 64],
-    lens: &mut [usize; 64],
-    keys: &mut [u64; 64],
+    sets: &mut [u64; STATIONS],
+    starts: &mut [usize; STOCKS],
+    lens: &mut [usize; STOCKS],
+    keys: &mut [u64; STOCKS],
 ) -> Counted
     requires { ⌜ HasAt (now text) end n (now sets) (now starts) (now lens) (now keys) count ⌝ }
     ensures { λ r. ⌜ StockedRead r (now (text .entry)) (now (sets .exit)) (now (starts .exit)) (now (lens .exit)) (now (keys .exit)) (hasLine n (stocked (codesIn (now (text .entry)) (now (starts .entry)) (now (lens .entry)) count) (now (sets .entry))) (fieldsFrom (now (text .entry)) at end)) ⌝ }

@@ -1,11 +1,11 @@
 // `TURN`: each further field is a turn.
-ghost use Prim.Native.Nat.{_≤_};
-ghost use lib.ListN.{length, take};
+ghost use lib.ListN.{take};
 ghost use Rattle.plan.specs.Plan.{each, takeTurn, turnLine};
 ghost use Rattle.plan.specs.Window.{fieldsFrom};
 ghost use Rattle.plan.specs.Hand.{TurnsAt, TurnsRead};
 use super::Counted;
 use super::Fault;
+use super::limits::TURNS;
 use super::number::number;
 use super::scan::field_end;
 
@@ -16,7 +16,7 @@ fn turns_from(
     end: usize,
     n: u8,
     count: usize,
-    turns: &mut [u8; 4096],
+    turns: &mut [u8; TURNS],
 ) -> Counted
     requires { ⌜ TurnsAt (now text) end count (now turns) ⌝ }
     ensures { λ r. ⌜ TurnsRead r (now (turns .exit)) (each (takeTurn n) (take count (now (turns .entry))) (fieldsFrom (now (text .entry)) at end)) ⌝ }
@@ -29,7 +29,7 @@ fn turns_from(
         if station == 0 {
             return Counted::Refused(Fault::NoStation);
         }
-        if k >= 4096 {
+        if k >= TURNS {
             return Counted::Refused(Fault::MoreTurns);
         }
         turns[k] = station;
@@ -40,13 +40,13 @@ fn turns_from(
 }
 
 // The fields of a `TURN` line behind its word.
-pub fn turn_line(
+pub(super) fn turn_line(
     text: &[u8],
     at: usize,
     end: usize,
     n: u8,
     count: usize,
-    turns: &mut [u8; 4096],
+    turns: &mut [u8; TURNS],
 ) -> Counted
     requires { ⌜ TurnsAt (now text) end count (now turns) ⌝ }
     ensures { λ r. ⌜ TurnsRead r (now (turns .exit)) (turnLine n (take count (now (turns .entry))) (fieldsFrom (now (text .entry)) at end)) ⌝ }

@@ -5,8 +5,6 @@ use Rattle.plan.specs.Refusal.{numberOf}
 use borrow.Author.Needs.{needs}
 use Rattle.plan.proofs.number_of.Statement.{statement}
 use Rattle.plan.proofs.number_of.Tie as tie
-use Rattle.plan.proofs.number_of.Reads as reads
-use Rattle.plan.proofs.number_of.Lts as lts
 
 enum-told : tie.Need-enum-told
 enum-told c = search needs

@@ -1,17 +1,11 @@
 -- `plan::read_plan` meets its contract: the text is too long, or its lines are refused, or all of the plan is copied out.
 -- Assumes nothing.
-use Prim.Native.Nat.{ℕ, suc, _+_, _-_, _*_, _≤_, _<_, _^_, _%_}
-use mathlib.Core.Path.{_≡_, refl, sym, ap, _∙_}
-use native.Mathlib.Omega.{arith}
+use mathlib.Core.Path.{_∙_}
 use borrow.Author.Needs.{needs}
 use Rattle.plan.specs.Hand.{hand}
 use Rattle.plan.proofs.Whole.{too-long, not-too-long, clear, cells-asked, plan-out, refused-out, plan-gives, plan-kept, refusal-gives}
 use Rattle.plan.proofs.read_plan.Statement.{statement}
 use Rattle.plan.proofs.read_plan.Tie as tie
-use Rattle.plan.proofs.read_plan.Reads as reads
-use Rattle.plan.proofs.read_plan.Lts as lts
-use Rattle.plan.proofs.cells.put_codes.Reads as put-codes-reads
-use Rattle.plan.proofs.lines.all_lines.Reads as all-lines-reads
 
 returns : tie.Need-returns
 returns c =

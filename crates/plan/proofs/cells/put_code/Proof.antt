@@ -1,18 +1,15 @@
 -- `plan::cells::put_code` meets its contract. Invariant: the first i bytes of the code stand in the cells.
 -- Assumes nothing.
-use Prim.Native.Nat.{ℕ, suc, _+_, _-_, _*_, _≤_, _<_, _^_, _%_}
-use mathlib.Core.Path.{_≡_, refl, sym, ap, _∙_}
+use Prim.Native.Nat.{ℕ, _+_, _-_, _≤_}
+use mathlib.Core.Path.{_≡_, ap, _∙_}
 use native.Mathlib.Omega.{arith}
-use borrow.Author.Needs.{needs}
 use mathlib.Core.List.{List}
-use lib.ListN.{length, getD, set}
+use lib.ListN.{getD, set}
 use lib.Seq.{paste, paste-zero}
 use Rattle.plan.specs.Window.{part}
 use Rattle.plan.proofs.Celled.{byte-more}
 use Rattle.plan.proofs.cells.put_code.Statement.{statement}
 use Rattle.plan.proofs.cells.put_code.Tie as tie
-use Rattle.plan.proofs.cells.put_code.Reads as reads
-use Rattle.plan.proofs.cells.put_code.Lts as lts
 
 abbrev Inv-loop : tie.InvT-loop
 Inv-loop text from len at cells₀ i₀ cells i = (i ≤ len) × (cells ≡ paste cells₀ at (part text from (from + len)) i)

@@ -1,9 +1,8 @@
 -- `plan::cells::put_codes` meets its contract. Invariant: the first k codes stand in their cells, and the rest is 0.
 -- Assumes nothing.
-use Prim.Native.Nat.{ℕ, suc, _+_, _-_, _*_, _≤_, _<_, _^_, _%_}
-use mathlib.Core.Path.{_≡_, refl, sym, ap, _∙_}
+use Prim.Native.Nat.{ℕ, _-_, _*_, _≤_}
+use mathlib.Core.Path.{_≡_, refl, ap, _∙_}
 use native.Mathlib.Omega.{arith}
-use borrow.Author.Needs.{needs}
 use mathlib.Core.List.{List}
 use lib.ListN.{length, getD}
 use lib.Seq.{paste}
@@ -13,9 +12,6 @@ use Rattle.plan.specs.Buffers.{padded, cellsOf}
 use Rattle.plan.proofs.Celled.{code-more, cells-there}
 use Rattle.plan.proofs.cells.put_codes.Statement.{statement}
 use Rattle.plan.proofs.cells.put_codes.Tie as tie
-use Rattle.plan.proofs.cells.put_codes.Reads as reads
-use Rattle.plan.proofs.cells.put_codes.Lts as lts
-use Rattle.plan.proofs.cells.put_code.Reads as put-code-reads
 
 abbrev Inv-loop : tie.InvT-loop
 Inv-loop text starts lens count cells₀ k₀ cells k = (k ≤ count) × (cells ≡ padded (mostStocks * mostCode) (cellsOf (codesIn text starts lens k)))

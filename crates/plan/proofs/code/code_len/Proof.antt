@@ -1,17 +1,15 @@
 -- `plan::code::code_len` meets its contract. Invariant: only spaces have gone, so what is left of the front is what is left of the whole.
 -- Assumes nothing.
-use Prim.Native.Nat.{ℕ, suc, _+_, _-_, _*_, _≤_, _<_, _^_, _%_}
-use mathlib.Core.Path.{_≡_, refl, sym, ap, _∙_}
+use Prim.Native.Nat.{ℕ, suc, _-_, _≤_}
+use mathlib.Core.Path.{_≡_, sym, ap, _∙_}
 use native.Mathlib.Omega.{arith}
 use borrow.Author.Needs.{needs}
-use lib.ListN.{length, getD, take}
+use lib.ListN.{length, take}
 use lib.Seq.{take-length, length-take-le}
 use Rattle.plan.specs.Code.{codeOf}
 use Rattle.plan.proofs.Codes.{trim-space, trim-solid}
 use Rattle.plan.proofs.code.code_len.Statement.{statement}
 use Rattle.plan.proofs.code.code_len.Tie as tie
-use Rattle.plan.proofs.code.code_len.Reads as reads
-use Rattle.plan.proofs.code.code_len.Lts as lts
 
 abbrev Inv-loop : tie.InvT-loop
 Inv-loop field n₀ n = (n ≤ length field) × (codeOf field ≡ codeOf (take n field))

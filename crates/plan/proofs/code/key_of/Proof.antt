@@ -1,17 +1,15 @@
 -- `plan::code::key_of` meets its contract. Invariant: the key of the whole is the key so far with what is left.
 -- Assumes nothing.
-use Prim.Native.Nat.{ℕ, suc, _+_, _-_, _*_, _≤_, _<_, _^_, _%_}
-use mathlib.Core.Path.{_≡_, refl, sym, ap, _∙_}
+use Prim.Native.Nat.{_-_}
+use mathlib.Core.Path.{_≡_, refl, sym, _∙_}
 use native.Mathlib.Omega.{arith}
 use borrow.Author.Needs.{needs}
 use native.Mathlib.Numerals.{add-one}
-use lib.ListN.{length, getD, drop}
+use lib.ListN.{length, drop}
 use Rattle.plan.specs.Hand.{keyOn}
 use Rattle.plan.proofs.Codes.{key-on, key-ends}
 use Rattle.plan.proofs.code.key_of.Statement.{statement}
 use Rattle.plan.proofs.code.key_of.Tie as tie
-use Rattle.plan.proofs.code.key_of.Reads as reads
-use Rattle.plan.proofs.code.key_of.Lts as lts
 
 abbrev Inv-loop : tie.InvT-loop
 Inv-loop code key₀ i₀ key i = keyOn 0 code ≡ keyOn key (drop i code)

@@ -1,14 +1,14 @@
 -- `plan::lines::all_lines` meets its contract: line 1 is refused, or it says n and the later lines follow.
 -- Assumes nothing.
-use Prim.Native.Nat.{ℕ, suc, _+_, _-_, _*_, _≤_, _<_, _^_, _%_}
-use mathlib.Core.Path.{_≡_, refl, sym, ap, _∙_}
+use Prim.Native.Nat.{ℕ, _+_}
+use mathlib.Core.Path.{sym, ap, _∙_}
 use native.Mathlib.Omega.{arith}
 use borrow.Author.Needs.{needs}
 use Prim.Native.Nat.{zero-le}
 use mathlib.Core.List.{List, []}
 use lib.ListN.{length, drop, length-replicate}
 use Rattle.plan.specs.Text.{linesOf}
-use Rattle.plan.specs.Plan.{held, stocked, laterLines, Reading}
+use Rattle.plan.specs.Plan.{held, stocked, laterLines}
 use Rattle.plan.specs.Hand.{codesIn}
 use Rattle.plan.specs.Window.{fieldsFrom}
 use Rattle.plan.proofs.Windows.{line-most}
@@ -16,12 +16,6 @@ use Rattle.plan.proofs.GangLines.{gang-most}
 use Rattle.plan.proofs.Later.{first-strayed, no-gang, gang-there}
 use Rattle.plan.proofs.lines.all_lines.Statement.{statement}
 use Rattle.plan.proofs.lines.all_lines.Tie as tie
-use Rattle.plan.proofs.lines.all_lines.Reads as reads
-use Rattle.plan.proofs.lines.all_lines.Lts as lts
-use Rattle.plan.proofs.lines.gang.Reads as gang-reads
-use Rattle.plan.proofs.lines.later_lines.Reads as later-lines-reads
-use Rattle.plan.proofs.lines.strays.Reads as strays-reads
-use Rattle.plan.proofs.scan.line_end.Reads as line-end-reads
 
 line-end-requires : tie.Need-line-end-requires
 line-end-requires c κs = search needs

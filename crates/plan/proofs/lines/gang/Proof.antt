@@ -1,20 +1,14 @@
 -- `plan::lines::gang` meets its contract: one field, another word, three fields or more, or `GANG` and a field that is a number or not.
 -- Assumes nothing.
-use Prim.Native.Nat.{ℕ, suc, _+_, _-_, _*_, _≤_, _<_, _^_, _%_}
-use mathlib.Core.Path.{_≡_, refl, sym, ap, _∙_}
+use Prim.Native.Nat.{_+_}
+use mathlib.Core.Path.{sym, _∙_}
 use native.Mathlib.Omega.{arith}
 use borrow.Author.Needs.{needs}
-use lib.ListN.{length, take}
 use lib.Seq.{length-take-le}
 use Rattle.plan.proofs.Windows.{field-most}
 use Rattle.plan.proofs.GangLines.{gang-alone, gang-other, gang-long, gang-is}
 use Rattle.plan.proofs.lines.gang.Statement.{statement}
 use Rattle.plan.proofs.lines.gang.Tie as tie
-use Rattle.plan.proofs.lines.gang.Reads as reads
-use Rattle.plan.proofs.lines.gang.Lts as lts
-use Rattle.plan.proofs.number.number.Reads as number-reads
-use Rattle.plan.proofs.scan.field_end.Reads as field-end-reads
-use Rattle.plan.proofs.scan.same.Reads as same-reads
 
 slice-aggregate-field-end : tie.Need-slice-aggregate-field-end
 slice-aggregate-field-end c = sym (length-take-le (c .before .before .args .end) (c .before .before .args .text .now) (c .before .before .pre))

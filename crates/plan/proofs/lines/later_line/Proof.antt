@@ -1,22 +1,15 @@
 -- `plan::lines::later_line` meets its contract: by its word the line is a HAS line, a TURN line or refused.
 -- Assumes nothing.
-use Prim.Native.Nat.{ℕ, suc, _+_, _-_, _*_, _≤_, _<_, _^_, _%_}
-use mathlib.Core.Path.{_≡_, refl, sym, ap, _∙_}
+use Prim.Native.Nat.{_≤_}
+use mathlib.Core.Path.{sym}
 use native.Mathlib.Omega.{arith}
 use borrow.Author.Needs.{needs}
-use lib.ListN.{length, take}
 use lib.Seq.{length-take-le}
 use Rattle.plan.specs.Hand.{hand}
 use Rattle.plan.proofs.Windows.{field-most}
 use Rattle.plan.proofs.LineWays.{other-way, has-way, has-no-way, turn-way, turn-no-way}
 use Rattle.plan.proofs.lines.later_line.Statement.{statement}
 use Rattle.plan.proofs.lines.later_line.Tie as tie
-use Rattle.plan.proofs.lines.later_line.Reads as reads
-use Rattle.plan.proofs.lines.later_line.Lts as lts
-use Rattle.plan.proofs.lines.word.Reads as word-reads
-use Rattle.plan.proofs.scan.field_end.Reads as field-end-reads
-use Rattle.plan.proofs.stocks.has_line.Reads as has-line-reads
-use Rattle.plan.proofs.turns.turn_line.Reads as turn-line-reads
 
 slice-aggregate-field-end : tie.Need-slice-aggregate-field-end
 slice-aggregate-field-end c = sym (length-take-le (c .before .before .args .end) (c .before .before .args .text .now) (c .before .before .pre .ends))

@@ -1,7 +1,7 @@
 -- `plan::lines::later_lines` meets its contract. Invariant: the lines from the start give what the lines from i give with the plan so far.
 -- Assumes nothing.
-use Prim.Native.Nat.{ℕ, suc, _+_, _-_, _*_, _≤_, _<_, _^_, _%_}
-use mathlib.Core.Path.{_≡_, refl, sym, ap, _∙_}
+use Prim.Native.Nat.{_+_, _-_, _≤_}
+use mathlib.Core.Path.{_≡_, refl, sym, _∙_}
 use native.Mathlib.Omega.{arith}
 use borrow.Author.Needs.{needs}
 use lib.ListN.{length, drop}
@@ -13,11 +13,6 @@ use Rattle.plan.proofs.LineWays.{more-gives, more-kept, bad-gives}
 use Rattle.plan.proofs.Later.{no-line, line-strayed, line-taken, line-refused}
 use Rattle.plan.proofs.lines.later_lines.Statement.{statement}
 use Rattle.plan.proofs.lines.later_lines.Tie as tie
-use Rattle.plan.proofs.lines.later_lines.Reads as reads
-use Rattle.plan.proofs.lines.later_lines.Lts as lts
-use Rattle.plan.proofs.lines.later_line.Reads as later-line-reads
-use Rattle.plan.proofs.lines.strays.Reads as strays-reads
-use Rattle.plan.proofs.scan.line_end.Reads as line-end-reads
 
 abbrev Inv-loop : tie.InvT-loop
 Inv-loop text from n sets₀ starts₀ lens₀ keys₀ turns₀ i₀ line₀ stocks₀ turned₀ sets starts lens keys turns i line stocks turned =

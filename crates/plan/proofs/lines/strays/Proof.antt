@@ -1,15 +1,10 @@
 -- `plan::lines::strays` meets its contract.
 -- Assumes nothing.
-use Prim.Native.Nat.{ℕ, suc, _+_, _-_, _*_, _≤_, _<_, _^_, _%_}
-use mathlib.Core.Path.{_≡_, refl, sym, ap, _∙_}
-use native.Mathlib.Omega.{arith}
 use borrow.Author.Needs.{needs}
 use lib.ListN.{length}
 use borrow.Author.Tests.{lt-ltb, le-ltb}
 use Rattle.plan.proofs.lines.strays.Statement.{statement}
 use Rattle.plan.proofs.lines.strays.Tie as tie
-use Rattle.plan.proofs.lines.strays.Reads as reads
-use Rattle.plan.proofs.lines.strays.Lts as lts
 
 shared-slice-read-result : tie.Need-shared-slice-read-result
 shared-slice-read-result c = search needs

@@ -1,17 +1,12 @@
 -- `plan::lines::word` meets its contract.
 -- Assumes nothing.
-use Prim.Native.Nat.{ℕ, suc, _+_, _-_, _*_, _≤_, _<_, _^_, _%_}
-use mathlib.Core.Path.{_≡_, refl, sym, ap, _∙_}
-use native.Mathlib.Omega.{arith}
+use mathlib.Core.Path.{_≡_, sym, _∙_}
 use borrow.Author.Needs.{needs}
 use mathlib.Core.Bool.{true, false}
 use Rattle.plan.specs.Text.{same}
 use Rattle.plan.specs.Plan.{HAS, TURN, wordOf}
 use Rattle.plan.proofs.lines.word.Statement.{statement}
 use Rattle.plan.proofs.lines.word.Tie as tie
-use Rattle.plan.proofs.lines.word.Reads as reads
-use Rattle.plan.proofs.lines.word.Lts as lts
-use Rattle.plan.proofs.scan.same.Reads as same-reads
 
 slice-aggregate-same : tie.Need-slice-aggregate-same
 slice-aggregate-same c = search needs

@@ -1,18 +1,14 @@
 -- `plan::number::number` meets its contract. Invariant: the field's number is what the value so far gives with the digits that are left.
 -- Assumes nothing.
-use Prim.Native.Nat.{ℕ, suc, _+_, _-_, _*_, _≤_, _<_, _^_, _%_}
-use mathlib.Core.Path.{_≡_, refl, sym, ap, _∙_}
+use Prim.Native.Nat.{_-_, _<_}
+use mathlib.Core.Path.{_≡_, refl, sym, _∙_}
 use native.Mathlib.Omega.{arith}
 use borrow.Author.Needs.{needs}
-use native.Mathlib.Numerals.{add-one}
-use lib.ListN.{length, getD, drop}
-use lib.Seq.{drop-cons}
+use lib.ListN.{length, drop}
 use Rattle.plan.specs.Number.{numberTo}
 use Rattle.plan.proofs.Numbers.{toGo, field-none, field-low, field-high, field-digit, past, on-digit, on-low, on-high, to-end}
 use Rattle.plan.proofs.number.number.Statement.{statement}
 use Rattle.plan.proofs.number.number.Tie as tie
-use Rattle.plan.proofs.number.number.Reads as reads
-use Rattle.plan.proofs.number.number.Lts as lts
 
 abbrev Inv-loop : tie.InvT-loop
 Inv-loop field hi first most v₀ i₀ v i = (v < 2560) × (most ≡ hi) × (numberTo hi field ≡ toGo hi v (drop i field))

@@ -1,20 +1,17 @@
 -- `plan::scan::field_end` meets its contract. Invariant: the run from the start ends where the run from i ends.
 -- Assumes nothing.
-use Prim.Native.Nat.{ℕ, _+_, _-_, _*_, _≤_, _<_, _^_}
+use Prim.Native.Nat.{_+_, _-_}
 use mathlib.Core.Path.{_≡_, refl, sym, ap, _∙_}
 use native.Mathlib.Omega.{arith}
 use borrow.Author.Needs.{needs}
 use mathlib.Core.Bool.{not}
 use borrow.Author.Tests.{eq-eqb, ne-eqb}
 use lib.ListN.{length, getD, drop}
-use lib.Dec.{eqb}
 use Rattle.plan.specs.Text.{run}
 use Rattle.plan.specs.Window.{noTab}
 use Rattle.plan.proofs.Runs.{run-on, run-stops, run-ends}
 use Rattle.plan.proofs.scan.field_end.Statement.{statement}
 use Rattle.plan.proofs.scan.field_end.Tie as tie
-use Rattle.plan.proofs.scan.field_end.Reads as reads
-use Rattle.plan.proofs.scan.field_end.Lts as lts
 
 abbrev Inv-loop : tie.InvT-loop
 Inv-loop line at i₀ i = at + run noTab (drop at line) ≡ i + run noTab (drop i line)

@@ -2,13 +2,10 @@
 -- Assumes nothing.
 use mathlib.Core.Bool.{or-false}
 use native.Mathlib.Omega.{arith}
-use borrow.Author.Needs.{needs}
 use borrow.Author.Tests.{le-leb, lt-leb, ne-eqb}
-use lib.Dec.{leb·suc-suc, eqb}
+use lib.Dec.{eqb}
 use Rattle.plan.proofs.scan.fine.Statement.{statement}
 use Rattle.plan.proofs.scan.fine.Tie as tie
-use Rattle.plan.proofs.scan.fine.Reads as reads
-use Rattle.plan.proofs.scan.fine.Lts as lts
 
 returns : tie.Need-returns
 returns c = rw (lt-leb 32 (c .before .args .b) (c .if1 .taken), or-false (eqb (c .before .args .b) 9))
@@ -16,7 +13,7 @@ returns c = rw (lt-leb 32 (c .before .args .b) (c .if1 .taken), or-false (eqb (c
 returns-2 : tie.Need-returns-2
 returns-2 c =
     let b = c .before .args .b in
-    rw (le-leb 32 b (c .if1 .left), ne-eqb b 9 (λ e. omega arith)) (leb·suc-suc b 126)
+    rw (le-leb 32 b (c .if1 .left), ne-eqb b 9 (λ e. omega arith))
 
 pub fine-spec : {M : Type 1} → statement M
 fine-spec = tie.close (tie.spec returns returns-2)

@@ -1,17 +1,14 @@
 -- `plan::scan::line_end` meets its contract. Invariant: the run from the start ends where the run from i ends.
 -- Assumes nothing.
-use Prim.Native.Nat.{_+_, _-_, _≤_}
+use Prim.Native.Nat.{_+_, _-_}
 use mathlib.Core.Path.{_≡_, refl, sym, _∙_}
 use native.Mathlib.Omega.{arith}
 use borrow.Author.Needs.{needs}
-use lib.ListN.{length, getD, drop}
+use lib.ListN.{length, drop}
 use Rattle.plan.specs.Text.{fine, run}
 use Rattle.plan.proofs.Runs.{run-on, run-stops, run-ends}
 use Rattle.plan.proofs.scan.line_end.Statement.{statement}
 use Rattle.plan.proofs.scan.line_end.Tie as tie
-use Rattle.plan.proofs.scan.line_end.Reads as reads
-use Rattle.plan.proofs.scan.line_end.Lts as lts
-use Rattle.plan.proofs.scan.fine.Reads as fine-reads
 
 abbrev Inv-loop : tie.InvT-loop
 Inv-loop text at i₀ i = at + run fine (drop at text) ≡ i + run fine (drop i text)

@@ -1,16 +1,14 @@
 -- `plan::scan::same` meets its contract. Invariant: the two are the same just where what is left of them is.
 -- Assumes nothing.
-use Prim.Native.Nat.{ℕ, suc, _+_, _-_, _*_, _≤_, _<_, _^_, _%_}
-use mathlib.Core.Path.{_≡_, refl, sym, ap, _∙_}
+use Prim.Native.Nat.{_-_, _≤_}
+use mathlib.Core.Path.{_≡_, refl, sym, _∙_}
 use native.Mathlib.Omega.{arith}
 use borrow.Author.Needs.{needs}
-use lib.ListN.{length, getD, drop}
+use lib.ListN.{length, drop}
 use Rattle.plan.specs.Text.{same}
 use Rattle.plan.proofs.Runs.{same-length, same-on, same-stops, same-ends}
 use Rattle.plan.proofs.scan.same.Statement.{statement}
 use Rattle.plan.proofs.scan.same.Tie as tie
-use Rattle.plan.proofs.scan.same.Reads as reads
-use Rattle.plan.proofs.scan.same.Lts as lts
 
 abbrev Inv-loop : tie.InvT-loop
 Inv-loop a b i₀ i = (i ≤ length a) × (length a ≡ length b) × (same a b ≡ same (drop i a) (drop i b))

@@ -4,11 +4,6 @@ use borrow.Author.Needs.{needs}
 use Rattle.plan.proofs.Listing.{read-known, read-most, read-new}
 use Rattle.plan.proofs.stocks.add_stock.Statement.{statement}
 use Rattle.plan.proofs.stocks.add_stock.Tie as tie
-use Rattle.plan.proofs.stocks.add_stock.Reads as reads
-use Rattle.plan.proofs.stocks.add_stock.Lts as lts
-use Rattle.plan.proofs.code.key_of.Reads as key-of-reads
-use Rattle.plan.proofs.stocks.stock_of.Reads as stock-of-reads
-use Rattle.plan.proofs.stocks.with_stock.Reads as with-stock-reads
 
 sub-key-of : tie.Need-sub-key-of
 sub-key-of c = search needs

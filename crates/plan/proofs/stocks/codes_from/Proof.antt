@@ -1,23 +1,19 @@
 -- `plan::stocks::codes_from` meets its contract. Invariant: the fields from the start give what the fields from i give with the table and the set so far.
 -- Assumes nothing.
-use Prim.Native.Nat.{ℕ, suc, _+_, _-_, _*_, _≤_, _<_, _^_, _%_}
-use mathlib.Core.Path.{_≡_, refl, sym, ap, _∙_}
+use Prim.Native.Nat.{suc, _-_, _≤_}
+use mathlib.Core.Path.{_≡_, refl, sym}
 use native.Mathlib.Omega.{arith}
 use borrow.Author.Needs.{needs}
-use lib.ListN.{length, take, set}
+use lib.ListN.{set}
 use lib.Seq.{length-take-le}
 use Rattle.plan.specs.Plan.{each, takeCode, holding}
-use Rattle.plan.specs.Window.{part, fieldsFrom}
+use Rattle.plan.specs.Window.{fieldsFrom}
 use Rattle.plan.specs.Hand.{Table, codesIn}
-use Rattle.plan.proofs.Windows.{field-starts, field-most}
+use Rattle.plan.proofs.Windows.{field-most}
 use Rattle.plan.proofs.Fields.{no-field, field-taken, field-refused}
 use Rattle.plan.proofs.Coding.{stocks-gives, stocks-kept, refused-gives}
 use Rattle.plan.proofs.stocks.codes_from.Statement.{statement}
 use Rattle.plan.proofs.stocks.codes_from.Tie as tie
-use Rattle.plan.proofs.stocks.codes_from.Reads as reads
-use Rattle.plan.proofs.stocks.codes_from.Lts as lts
-use Rattle.plan.proofs.scan.field_end.Reads as field-end-reads
-use Rattle.plan.proofs.stocks.take_code.Reads as take-code-reads
 
 abbrev Inv-loop : tie.InvT-loop
 Inv-loop text at end count set starts₀ lens₀ keys₀ i₀ k₀ s₀ starts lens keys i k s =

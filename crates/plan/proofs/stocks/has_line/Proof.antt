@@ -1,12 +1,12 @@
 -- `plan::stocks::has_line` meets its contract: too few fields, no station, a code that is refused, or the station's set with its codes.
 -- Assumes nothing.
-use Prim.Native.Nat.{ℕ, suc, _+_, _-_, _*_, _≤_, _<_, _^_, _%_}
-use mathlib.Core.Path.{_≡_, refl, sym, ap, _∙_}
+use Prim.Native.Nat.{_-_}
+use mathlib.Core.Path.{sym, _∙_}
 use native.Mathlib.Omega.{arith}
 use borrow.Author.Needs.{needs}
-use lib.ListN.{length, getD, set, length-set}
+use lib.ListN.{length-set}
 use lib.Seq.{length-take-le}
-use Rattle.plan.specs.Plan.{stocked, holding}
+use Rattle.plan.specs.Plan.{stocked}
 use Rattle.plan.specs.Window.{part}
 use Rattle.plan.specs.Hand.{codesIn}
 use Rattle.plan.proofs.Numbers.{number-most}
@@ -14,11 +14,6 @@ use Rattle.plan.proofs.Coding.{stocks-gives, stocks-kept, refused-gives
 use Rattle.plan.proofs.HasLines.{has-none, has-one, has-nobody, has-refused, has-taken}
 use Rattle.plan.proofs.stocks.has_line.Statement.{statement}
 use Rattle.plan.proofs.stocks.has_line.Tie as tie
-use Rattle.plan.proofs.stocks.has_line.Reads as reads
-use Rattle.plan.proofs.stocks.has_line.Lts as lts
-use Rattle.plan.proofs.number.number.Reads as number-reads
-use Rattle.plan.proofs.scan.field_end.Reads as field-end-reads
-use Rattle.plan.proofs.stocks.codes_from.Reads as codes-from-reads
 
 returns : tie.Need-returns
 returns c =

@@ -1,16 +1,11 @@
 -- `plan::stocks::is_stock` meets its contract: equal codes have equal keys.
 -- Assumes nothing.
-use Prim.Native.Nat.{ℕ, suc, _+_, _-_, _*_, _≤_, _<_, _^_, _%_}
-use mathlib.Core.Path.{_≡_, refl, sym, ap, _∙_}
-use native.Mathlib.Omega.{arith}
+use mathlib.Core.Path.{sym, ap, _∙_}
 use borrow.Author.Needs.{needs}
 use Rattle.plan.specs.Hand.{keyOn}
 use Rattle.plan.proofs.Listing.{same-not}
 use Rattle.plan.proofs.stocks.is_stock.Statement.{statement}
 use Rattle.plan.proofs.stocks.is_stock.Tie as tie
-use Rattle.plan.proofs.stocks.is_stock.Reads as reads
-use Rattle.plan.proofs.stocks.is_stock.Lts as lts
-use Rattle.plan.proofs.scan.same.Reads as same-reads
 
 mul-if1 : tie.Need-mul-if1
 mul-if1 c = search needs

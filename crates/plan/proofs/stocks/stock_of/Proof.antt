@@ -1,20 +1,16 @@
 -- `plan::stocks::stock_of` meets its contract. Invariant: the code is none of the first j, so its number is j and its number among the rest.
 -- Assumes nothing.
-use Prim.Native.Nat.{ℕ, suc, _+_, _-_, _*_, _≤_, _<_, _^_, _%_}
-use mathlib.Core.Path.{_≡_, refl, sym, ap, _∙_}
+use Prim.Native.Nat.{_+_, _-_, _≤_}
+use mathlib.Core.Path.{_≡_, sym, ap, _∙_}
 use native.Mathlib.Omega.{arith}
-use borrow.Author.Needs.{needs}
 use lib.ListN.{drop}
 use Rattle.plan.specs.Code.{stockOf}
 use Rattle.plan.specs.Window.{part}
 use Rattle.plan.specs.Text.{same}
-use Rattle.plan.specs.Hand.{codesIn, codeAt}
+use Rattle.plan.specs.Hand.{codesIn}
 use Rattle.plan.proofs.Listing.{codes-length, codes-at, stock-on, stock-here, stock-none}
 use Rattle.plan.proofs.stocks.stock_of.Statement.{statement}
 use Rattle.plan.proofs.stocks.stock_of.Tie as tie
-use Rattle.plan.proofs.stocks.stock_of.Reads as reads
-use Rattle.plan.proofs.stocks.stock_of.Lts as lts
-use Rattle.plan.proofs.stocks.is_stock.Reads as is-stock-reads
 
 abbrev Inv-loop : tie.InvT-loop
 Inv-loop text at end key count starts lens keys j₀ j =

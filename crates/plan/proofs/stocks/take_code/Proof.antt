@@ -1,17 +1,12 @@
 -- `plan::stocks::take_code` meets its contract: a field that is too long or blank is refused, and else what is left of it is a code.
 -- Assumes nothing.
-use Prim.Native.Nat.{ℕ, suc, _+_, _-_, _*_, _≤_, _<_, _^_, _%_}
-use mathlib.Core.Path.{_≡_, refl, sym, ap, _∙_}
+use mathlib.Core.Path.{sym, ap, _∙_}
 use native.Mathlib.Omega.{arith}
 use borrow.Author.Needs.{needs}
 use Rattle.plan.specs.Plan.{addStock}
 use Rattle.plan.proofs.Coding.{code-long, code-blank, code-left, field-length, code-part, code-most}
 use Rattle.plan.proofs.stocks.take_code.Statement.{statement}
 use Rattle.plan.proofs.stocks.take_code.Tie as tie
-use Rattle.plan.proofs.stocks.take_code.Reads as reads
-use Rattle.plan.proofs.stocks.take_code.Lts as lts
-use Rattle.plan.proofs.code.code_len.Reads as code-len-reads
-use Rattle.plan.proofs.stocks.add_stock.Reads as add-stock-reads
 
 sub-if1 : tie.Need-sub-if1
 sub-if1 c = search needs

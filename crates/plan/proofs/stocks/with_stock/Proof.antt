@@ -1,16 +1,13 @@
 -- `plan::stocks::with_stock` meets its contract: bit k is within 64 bits.
 -- Assumes nothing.
-use Prim.Native.Nat.{ℕ, suc, _+_, _-_, _*_, _≤_, _<_, _^_, _%_}
-use mathlib.Core.Path.{_≡_, refl, sym, ap, _∙_}
-use native.Mathlib.Omega.{arith}
+use Prim.Native.Nat.{ℕ, _*_, _^_, _%_}
+use mathlib.Core.Path.{_≡_, ap, _∙_}
 use borrow.Author.Needs.{needs}
 use native.Mathlib.Nat.{mod-eq-of-lt, one-mul}
 use lib.Bits.{bitOr}
 use lib.Pow.{pow-lt}
 use Rattle.plan.proofs.stocks.with_stock.Statement.{statement}
 use Rattle.plan.proofs.stocks.with_stock.Tie as tie
-use Rattle.plan.proofs.stocks.with_stock.Reads as reads
-use Rattle.plan.proofs.stocks.with_stock.Lts as lts
 
 shl-result : tie.Need-shl-result
 shl-result c = search needs

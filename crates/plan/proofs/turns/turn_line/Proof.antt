@@ -1,16 +1,11 @@
 -- `plan::turns::turn_line` meets its contract: with no further field it is refused, and else each field is a turn.
 -- Assumes nothing.
-use Prim.Native.Nat.{ℕ, suc, _+_, _-_, _*_, _≤_, _<_, _^_, _%_}
-use mathlib.Core.Path.{_≡_, refl, sym, ap, _∙_}
+use mathlib.Core.Path.{sym, _∙_}
 use native.Mathlib.Omega.{arith}
 use borrow.Author.Needs.{needs}
-use lib.ListN.{take}
 use Rattle.plan.proofs.Turned.{turn-line-none, turn-line-some}
 use Rattle.plan.proofs.turns.turn_line.Statement.{statement}
 use Rattle.plan.proofs.turns.turn_line.Tie as tie
-use Rattle.plan.proofs.turns.turn_line.Reads as reads
-use Rattle.plan.proofs.turns.turn_line.Lts as lts
-use Rattle.plan.proofs.turns.turns_from.Reads as turns-from-reads
 
 returns : tie.Need-returns
 returns c =

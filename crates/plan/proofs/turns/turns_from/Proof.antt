@@ -1,23 +1,19 @@
 -- `plan::turns::turns_from` meets its contract. Invariant: the fields from the start give what the fields from i give with the turns so far.
 -- Assumes nothing.
-use Prim.Native.Nat.{ℕ, suc, _+_, _-_, _*_, _≤_, _<_, _^_, _%_}
-use mathlib.Core.Path.{_≡_, refl, sym, ap, _∙_}
+use Prim.Native.Nat.{suc, _-_, _≤_}
+use mathlib.Core.Path.{_≡_, refl, sym}
 use native.Mathlib.Omega.{arith}
 use borrow.Author.Needs.{needs}
-use lib.ListN.{length, take, set}
+use lib.ListN.{take}
 use lib.Seq.{length-take-le}
 use Rattle.plan.specs.Plan.{each, takeTurn}
-use Rattle.plan.specs.Window.{part, fieldsFrom}
+use Rattle.plan.specs.Window.{fieldsFrom}
 use Rattle.plan.specs.Hand.{TurnsIn}
-use Rattle.plan.proofs.Windows.{field-starts, field-most}
+use Rattle.plan.proofs.Windows.{field-most}
 use Rattle.plan.proofs.Fields.{no-field, field-taken, field-refused}
 use Rattle.plan.proofs.Turned.{turn-none, turn-more, turn-taken, turns-more}
 use Rattle.plan.proofs.turns.turns_from.Statement.{statement}
 use Rattle.plan.proofs.turns.turns_from.Tie as tie
-use Rattle.plan.proofs.turns.turns_from.Reads as reads
-use Rattle.plan.proofs.turns.turns_from.Lts as lts
-use Rattle.plan.proofs.number.number.Reads as number-reads
-use Rattle.plan.proofs.scan.field_end.Reads as field-end-reads
 
 abbrev Inv-loop : tie.InvT-loop
 Inv-loop text at end n count turns₀ i₀ k₀ turns i k =
