@@ -43,8 +43,5 @@ pub fn play_out(run: Run, turns: &[u8]) -> Played
 {
     let mut lent = run;
     let at = play(&mut lent, turns);
-    Played {
-        run: lent,
-        at: at,
-    }
+    Played { run: lent, at: at }
 }

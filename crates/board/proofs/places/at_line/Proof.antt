@@ -10,7 +10,7 @@ off-record-requires : tie.Need-off-record-requires
 off-record-requires c κs = search needs
 
 returns : tie.Need-returns
-returns c = search (line-beyond, line-on, needs)
+returns c = search (line-beyond, needs)
 
 returns-2 : tie.Need-returns-2
 returns-2 c = search (line-beyond, line-on, needs)

@@ -40,22 +40,22 @@ enum-told-3 : tie.Need-enum-told-3
 enum-told-3 c = search needs
 
 returns : tie.Need-returns
-returns c = search (did-post, did-write, did-read, did-line, did-unwritten, did-rest, needs)
+returns c = search (did-post, needs)
 
 returns-2 : tie.Need-returns-2
-returns-2 c = search (did-post, did-write, did-read, did-line, did-unwritten, did-rest, needs)
+returns-2 c = search (did-write, needs)
 
 returns-3 : tie.Need-returns-3
-returns-3 c = search (did-post, did-write, did-read, did-line, did-unwritten, did-rest, needs)
+returns-3 c = search (did-write, did-read, did-line, needs)
 
 returns-4 : tie.Need-returns-4
-returns-4 c = search (did-post, did-write, did-read, did-line, did-unwritten, did-rest, needs)
+returns-4 c = search (did-write, did-read, did-line, needs)
 
 returns-5 : tie.Need-returns-5
-returns-5 c = search (did-post, did-write, did-read, did-line, did-unwritten, did-rest, needs)
+returns-5 c = search (did-unwritten, needs)
 
 returns-6 : tie.Need-returns-6
-returns-6 c = search (did-post, did-write, did-read, did-line, did-unwritten, did-rest, needs)
+returns-6 c = search (did-rest, needs)
 
 pub performed-spec : {M : Type 1} → statement M
 performed-spec =

@@ -28,13 +28,13 @@ use types.SemTy.{Body}
 use types.Mut.{open-ref, close-ref}
 use sound.WpLaws.{FmC, fmOf, WpFn-mono}
 use denote.RattleType.{owns}
-use denote.Laws.{Is, shows}
+use denote.Laws.{Is}
 use denote.Memory.{mem, partAt}
 use denote.Plain.{uint-vals, uint-tells, uint-makes}
 use denote.Builtin.{u8, u64}
 use denote.Ref.{RefT, MutRef, ptr-vals, mut-tells}
 use denote.Signature.{plain}
-use denote.Steps.{owned, facts, nothing}
+use denote.Steps.{owned, nothing}
 use denote.Struct.Laws as LL
 use denote.Enum.Laws as EL
 use denote.Triple.Statement.{Contract, Triple}
@@ -65,6 +65,7 @@ use Rattle.board.specs.declared.places.Aim.{Aim}
 use Rattle.board.specs.declared.turning.Made.{Made}
 use Rattle.board.specs.Places.{seatAt, aimOf, madeOf}
 use Rattle.board.specs.Step.{stepOf}
+use Rattle.board.proofs.Values.{runVal, rowVal, lineVal, didVal}
 use Rattle.board.proofs.Within.{within-self, knows, sees, sets}
 use Rattle.board.proofs.Record.{levelAt, withCell, withLines, withRows, stations-in, depth-in, row-in, row-put, line-in, line-put, cell-in, cell-put}
 use Rattle.board.proofs.Calling.{calls-plain}
@@ -98,23 +99,11 @@ Arg = RefT Run × (ℕ × Unit {0})
 abbrev stayed : Stays (step.ended .signature .params) (step.ended .kept)
 stayed = (stay-ref (0 ∷ []) tt (plain (λ _. Rn.the-row)), (stay-none (λ _. u8) yes, tt))
 
-abbrev runVal : Run → Val
-runVal h = LL.val Rn.the-type Rn′.the-laws h
-
-abbrev rowVal : Row → Val
-rowVal r = LL.val Rw.the-type Rw′.the-laws r
-
-abbrev lineVal : Line → Val
-lineVal l = LL.val Ln.the-type Ln′.the-laws l
-
 abbrev aimVal : Aim → Val
 aimVal a = LL.val Am.the-type Am′.the-laws a
 
 abbrev madeVal : Made → Val
 madeVal m = LL.val Md.the-type Md′.the-laws m
-
-abbrev didVal : Did → Val
-didVal d = EL.val Dd.the-type Dd′.the-laws d
 
 -- an index below 16, times a size that is no larger than this, is an address
 fits-at : (i s : ℕ) → i < 16 → s < 4096 → Fits w64 (i * s)
