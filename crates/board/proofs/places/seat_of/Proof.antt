@@ -4,10 +4,10 @@ use Rattle.board.proofs.places.seat_of.Statement.{statement}
 use Rattle.board.proofs.places.seat_of.Tie as tie
 
 returns : tie.Need-returns
-returns c = search (seat-none, seat-off, needs)
+returns c = search (seat-none, needs)
 
 returns-2 : tie.Need-returns-2
-returns-2 c = search (seat-none, seat-off, needs)
+returns-2 c = search (seat-off, needs)
 
 sub-result : tie.Need-sub-result
 sub-result c = search needs

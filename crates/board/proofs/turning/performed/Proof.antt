@@ -46,10 +46,10 @@ returns-2 : tie.Need-returns-2
 returns-2 c = search (did-write, needs)
 
 returns-3 : tie.Need-returns-3
-returns-3 c = search (did-write, did-read, did-line, needs)
+returns-3 c = search (did-read, needs)
 
 returns-4 : tie.Need-returns-4
-returns-4 c = search (did-write, did-read, did-line, needs)
+returns-4 c = search (did-line, needs)
 
 returns-5 : tie.Need-returns-5
 returns-5 c = search (did-unwritten, needs)
