@@ -3,6 +3,7 @@ mod Filled
 mod Placing
 mod Turns
 mod Within
+mod Values
 mod Record
 mod Calling
 mod Stepping

@@ -1,5 +1,5 @@
 -- A look through an order of turns for the first at which a test holds, and the record on the way.
-use Prim.Native.Nat.{ℕ, zero, suc, _+_, _-_, _≤_, _<_}
+use Prim.Native.Nat.{ℕ, suc, _+_, _-_, _≤_, _<_}
 use mathlib.Core.Path.{_≡_, refl, sym, ap, subst, _∙_}
 use mathlib.Core.Bool.{Bool, true, false, cond}
 use mathlib.Core.List.{List}
@@ -16,7 +16,6 @@ use Rattle.method.specs.declared.Turned.{Turned}
 use Rattle.method.specs.Board.{rowOf, lineOf}
 use Rattle.method.specs.Steps.{nextOp}
 use Rattle.method.specs.Turn.{turned, readLine, perform, named, turn}
-use Rattle.board.specs.declared.playing.Played.{Played}
 use Rattle.board.specs.Step.{countEnd, stepOf}
 use Rattle.board.specs.Playing.{stepped, firstFrom, isUnwritten, unwrittenStep, stopsAt, playedOf}
 

@@ -1,10 +1,10 @@
 -- A turn by its ways out.
-use Prim.Native.Nat.{ℕ, zero, suc, _+_, _-_, _≤_, _<_}
+use Prim.Native.Nat.{ℕ, _+_, _≤_, _<_}
 use mathlib.Core.Path.{_≡_, refl, sym, ap, _∙_}
 use mathlib.Core.Bool.{Bool, true, false, cond, _&&_, and-false}
 use native.Mathlib.Omega.{arith}
 use borrow.Author.Tests.{lt-ltb, le-ltb, le-leb, lt-leb}
-use lib.Dec.{leb, ltb}
+use lib.Dec.{leb}
 use Rattle.method.specs.declared.Line.{Line}
 use Rattle.method.specs.declared.State.{State}
 use Rattle.method.specs.declared.Row.{Row}
@@ -92,6 +92,3 @@ module _ (N i : ℕ) (r : Row) where
     pub made-on : (i ≡ 0 → ⊥) → i ≤ n → i ≤ 16 → r .count < countEnd → x ≡ made N i r held l (a .on) (a .op) → x ≡ madeOf N i r held l n a
     unfolding madeOf
     made-on z h g c f = f ∙ rw (le-leb 1 i (omega arith), le-leb i n h, le-leb i 16 g, lt-ltb _ _ c)
-
-  pub seated-now : (i ≡ 0 → ⊥) → i ≤ 16 → r .count < countEnd → Seated i r
-  seated-now z h c = record { low = omega arith; high = h; room = c }

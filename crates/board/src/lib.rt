@@ -4,7 +4,7 @@
 pub mod start;
 
 // Where on the record a turn reads and writes.
-pub mod places;
+mod places;
 
 // One turn.
 pub mod turning;

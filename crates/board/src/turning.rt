@@ -192,7 +192,7 @@ fn nothing_made(row: Row, held: u64, line: Line) -> Made
 }
 
 // The turn of station i of n, where its row, and the register and the line of its operation's place, hold these.
-pub fn made_by(n: u8, depth: u8, i: u8, row: Row, aim: Aim, held: u64, line: Line) -> Made
+fn made_by(n: u8, depth: u8, i: u8, row: Row, aim: Aim, held: u64, line: Line) -> Made
     ensures { λ r. ⌜ r ≡ madeOf depth i row held line n aim ⌝ }
 {
     if i == 0 {
@@ -211,7 +211,7 @@ pub fn made_by(n: u8, depth: u8, i: u8, row: Row, aim: Aim, held: u64, line: Lin
 }
 
 // One turn of station i, in place: it reads the station's row and what stands at the place of its next operation, and writes there and
-// in the row.
+// in the row. What the turn does not change is put back as it was, so that every branch stands in a function of plain values.
 pub fn step(run: &mut Run, i: u8) -> Did
     ensures { λ r. ⌜ (now (run .exit) ≡ stepOf (now (run .entry)) i .run) × (r ≡ stepOf (now (run .entry)) i .did) ⌝ }
 {

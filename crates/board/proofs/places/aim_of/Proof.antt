@@ -37,19 +37,19 @@ off-record-requires : tie.Need-off-record-requires
 off-record-requires c κs = search needs
 
 returns : tie.Need-returns
-returns c = search (aims-post, aims-write, aims-read, aims-line, aims-rest, needs)
+returns c = search (aims-post, needs)
 
 returns-2 : tie.Need-returns-2
-returns-2 c = search (aims-post, aims-write, aims-read, aims-line, aims-rest, needs)
+returns-2 c = search (aims-write, needs)
 
 returns-3 : tie.Need-returns-3
-returns-3 c = search (aims-post, aims-write, aims-read, aims-line, aims-rest, needs)
+returns-3 c = search (aims-read, needs)
 
 returns-4 : tie.Need-returns-4
-returns-4 c = search (aims-post, aims-write, aims-read, aims-line, aims-rest, needs)
+returns-4 c = search (aims-line, needs)
 
 returns-5 : tie.Need-returns-5
-returns-5 c = search (aims-post, aims-write, aims-read, aims-line, aims-rest, needs)
+returns-5 c = search (aims-rest, needs)
 
 pub aim-of-spec : {M : Type 1} → statement M
 aim-of-spec =

@@ -10,10 +10,10 @@ off-record-requires : tie.Need-off-record-requires
 off-record-requires c κs = search needs
 
 returns : tie.Need-returns
-returns c = search (line-beyond, line-on, needs)
+returns c = search (line-beyond, needs)
 
 returns-2 : tie.Need-returns-2
-returns-2 c = search (line-beyond, line-on, needs)
+returns-2 c = search (line-on, needs)
 
 pub at-line-spec : {M : Type 1} → statement M
 at-line-spec = tie.close (tie.spec index-of-requires off-record-requires returns returns-2)

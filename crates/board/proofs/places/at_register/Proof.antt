@@ -10,7 +10,7 @@ off-record-requires : tie.Need-off-record-requires
 off-record-requires c κs = search needs
 
 returns : tie.Need-returns
-returns c = search (register-above, register-beyond, register-on, needs)
+returns c = search (register-above, needs)
 
 place-of-requires : tie.Need-place-of-requires
 place-of-requires c κs = search needs
@@ -22,10 +22,10 @@ off-record-requires-2 : tie.Need-off-record-requires-2
 off-record-requires-2 c κs = search needs
 
 returns-2 : tie.Need-returns-2
-returns-2 c = search (register-above, register-beyond, register-on, needs)
+returns-2 c = search (register-beyond, needs)
 
 returns-3 : tie.Need-returns-3
-returns-3 c = search (register-above, register-beyond, register-on, needs)
+returns-3 c = search (register-on, needs)
 
 pub at-register-spec : {M : Type 1} → statement M
 at-register-spec =
