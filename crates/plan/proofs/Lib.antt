@@ -17,3 +17,6 @@ pub mod Outcomes
 pub mod Answers
 pub mod Numbers
 pub mod Codes
+pub mod Held
+pub mod ToEnd
+pub mod Through

@@ -77,6 +77,7 @@ mod code;
 pub mod limits;
 mod lines;
 mod number;
+mod reader;
 mod scan;
 mod stocks;
 mod turns;

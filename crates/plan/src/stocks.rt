@@ -16,7 +16,7 @@ use super::limits::CODE;
 use super::limits::STATIONS;
 use super::limits::STOCKS;
 use super::number::number;
-use super::scan::field_end;
+use super::reader::field_end;
 use super::scan::same;
 
 // The set with stock k.

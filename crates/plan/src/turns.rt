@@ -7,7 +7,7 @@ use super::Counted;
 use super::Fault;
 use super::limits::TURNS;
 use super::number::number;
-use super::scan::field_end;
+use super::reader::field_end;
 
 // The fields from `at` to the line's end, each put at the end of the turns.
 fn turns_from(
