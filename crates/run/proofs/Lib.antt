@@ -2,4 +2,4 @@
 mod Little
 mod Laid
 mod Judging
-mod Agree
+pub mod Agree
