@@ -1,1 +1,9 @@
 -- Laws for the proofs of this crate.
+mod Laying
+mod Numerals
+mod Fielding
+mod Lining
+mod Listed
+mod Handing
+mod Taken
+mod Running

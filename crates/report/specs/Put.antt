@@ -4,6 +4,8 @@ use mathlib.Core.Path.{_≡_}
 use mathlib.Core.List.{List, [], _∷_, _++_}
 use lib.ListN.{length, getD, take, drop}
 use lib.Seq.{sets}
+use Rattle.method.specs.declared.Row.{Row}
+use Rattle.method.specs.Board.{notBegun}
 use Rattle.method.specs.Demand.{Station}
 use Rattle.plan.specs.Limits.{mostStations, mostStocks, mostTurns, mostCode}
 use Rattle.report.specs.Printed.{mostPrinted}
@@ -18,6 +20,11 @@ pub record DigitRoom (page : List ℕ) (at base w : ℕ) : Type 0 where
   pub room : at + w ≤ length page
   pub low : 2 ≤ base
   pub high : base ≤ 16
+
+-- the counts of the first n rows, added up
+unfoldable pub countsIn : List Row → ℕ → ℕ
+countsIn rows zero = 0
+countsIn rows (suc n) = countsIn rows n + getD rows n (notBegun 0) .count
 
 -- the codes in their cells, from number k on: their bytes, and how long each is
 unfoldable pub codesFrom : List ℕ → List ℕ → ℕ → ℕ → List (List ℕ)

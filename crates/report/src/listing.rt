@@ -2,13 +2,11 @@
 ghost use mathlib.Core.Path.{_≡_};
 ghost use Prim.Native.Nat.{_+_, _*_, _≤_, _<_};
 ghost use lib.ListN.{length, take};
-ghost use Rattle.method.specs.Demand.{countsOf};
 ghost use Rattle.report.specs.Lines.{numbered, stockLine, stationLine};
-ghost use Rattle.report.specs.Put.{Put, Celled, codesFrom};
+ghost use Rattle.report.specs.Put.{Put, Celled, codesFrom, countsIn};
 use super::lines::put_station;
 use super::lines::put_stock;
 use method::Row;
-use method::Run;
 
 fn wide(count: u16) -> usize
     ensures { λ r. ⌜ (r ≡ count) × (r < 65536) ⌝ }
@@ -17,11 +15,10 @@ fn wide(count: u16) -> usize
 }
 
 // The counts of the first n stations, added up.
-pub fn counted(run: Run, n: usize) -> usize
+pub fn counted(n: usize, rows: [Row; 16]) -> usize
     requires { ⌜ n ≤ 16 ⌝ }
-    ensures { λ r. ⌜ r ≡ countsOf run n ⌝ }
+    ensures { λ r. ⌜ r ≡ countsIn rows n ⌝ }
 {
-    let rows = run.rows;
     let mut sum = 0;
     let mut i = 0;
     while i < n {

@@ -28,10 +28,10 @@ fn put_report(
     let stations = n as usize;
     let played = board::playing::play_out(board::start::fresh(n, sets), turns);
     let run = played.run;
-    let idle = turns.len() - counted(run, stations);
+    let rows = run.rows;
+    let idle = turns.len() - counted(stations, rows);
     let a = put_run(page, n as u16, turns.len() as u16, idle as u16);
     let b = put_stocks(page, a, stocks, cells, lens);
-    let rows = run.rows;
     put_stations(page, b, stations, rows)
 }
 
