@@ -14,3 +14,4 @@ pub mod Celled
 pub mod Whole
 pub mod Numbers
 pub mod Codes
+pub mod Taken

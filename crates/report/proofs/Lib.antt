@@ -5,5 +5,6 @@ mod Fielding
 mod Lining
 mod Listed
 mod Handing
-mod Taken
 mod Running
+pub mod Sizes
+mod Printing

@@ -2,7 +2,7 @@
 use Prim.Native.Nat.{ℕ, zero, suc, _+_, _-_, _≤_, _<_}
 use mathlib.Core.Path.{_≡_, refl, sym, ap, _∙_}
 use mathlib.Core.Bool.{Bool, true, false}
-use mathlib.Core.List.{List, [], _∷_, _++_, append-assoc}
+use mathlib.Core.List.{List, [], _∷_, _++_}
 use native.Mathlib.Nat.{le-refl}
 use native.Mathlib.Omega.{arith}
 use borrow.Author.Tests.{le-leb}
@@ -19,6 +19,7 @@ use Rattle.board.specs.declared.playing.Played.{Played}
 use Rattle.board.specs.Playing.{stepped, firstFrom, isUnwritten, stopsAt, playedOf}
 use Rattle.run.specs.Call.{isBad, firstBad, readsUnwritten, firstUnwritten}
 use Rattle.run.proofs.Agree.{stepped-after, stops-first}
+use Rattle.plan.proofs.Taken.{TurnsFine}
 use Rattle.report.specs.Lines.{runLine, stockLine, stationLine, numbered}
 use Rattle.report.specs.Printed.{lines, report}
 use Rattle.report.specs.Put.{Put, countsIn}
@@ -42,6 +43,10 @@ not-unwritten Nobody h = refl
 
 not-bad : (n : ℕ) (turns : List ℕ) (t : ℕ) → Station n (getD turns t 0) → isBad n turns t ≡ false
 not-bad n turns t st = rw (le-leb 1 (getD turns t 0) (st .low), le-leb (getD turns t 0) n (st .high))
+
+-- every turn of a plan that was taken names a station
+pub all-stations : {n : ℕ} {turns : List ℕ} → TurnsFine n turns → (t : ℕ) → t < length turns → Station n (getD turns t 0)
+all-stations p t l = record { low = p .named t l .low; high = p .named t l .high }
 
 module _ (n : ℕ) (sets turns : List ℕ) (high : n ≤ 16) (sixteen : length sets ≡ 16) (few : length turns ≤ 4096) (named : (t : ℕ) → t < length turns → Station n (getD turns t 0)) where
   fits : Fits levels registers n sets
@@ -89,7 +94,6 @@ module _ (n : ℕ) (sets turns : List ℕ) (high : n ≤ 16) (sixteen : length s
       let idle : length turns - counts ≡ idleTurns (fresh n sets) turns (length turns) = idle-is start played counts s e c in
       let made : played .run ≡ after (fresh n sets) turns (length turns) = ran start played s e in
       put-same
-      (append-assoc (runLine n (length turns) (length turns - counts)) (numbered stockLine 0 codes) (numbered stationLine 1 (take n (played .run .rows)))
-      ∙ ap (λ (i : ℕ). runLine n (length turns) i ++ numbered stockLine 0 codes ++ numbered stationLine 1 (take n (played .run .rows))) idle
+      (ap (λ (i : ℕ). runLine n (length turns) i ++ numbered stockLine 0 codes ++ numbered stationLine 1 (take n (played .run .rows))) idle
       ∙ ap (λ (x : Run). runLine n (length turns) (idleTurns (fresh n sets) turns (length turns)) ++ numbered stockLine 0 codes ++ numbered stationLine 1 (take n (x .rows))) made)
       (put-then (put-then f g) h)

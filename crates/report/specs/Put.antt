@@ -39,9 +39,10 @@ pub record Celled (cells lens : List ℕ) (count : ℕ) : Type 0 where
   pub short : (j : ℕ) → j < count → getD lens j 0 ≤ mostCode
 
 -- a plan that was read, on an empty page
-pub record Ready (page : List ℕ) (n stocks : ℕ) (cells lens turns : List ℕ) : Type 0 where
+pub record Ready (page : List ℕ) (n : ℕ) (inputs : List ℕ) (stocks : ℕ) (cells lens turns : List ℕ) : Type 0 where
   pub page-long : length page ≡ mostPrinted
   pub high : n ≤ mostStations
+  pub sets-long : length inputs ≡ mostStations
   pub celled : Celled cells lens stocks
   pub few : length turns ≤ mostTurns
   pub named : (t : ℕ) → t < length turns → Station n (getD turns t 0)

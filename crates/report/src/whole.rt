@@ -22,7 +22,7 @@ fn put_report(
     lens: &[usize],
     turns: &[u8],
 ) -> usize
-    requires { ⌜ Ready (now page) n stocks (now cells) (now lens) (now turns) ⌝ }
+    requires { ⌜ Ready (now page) n sets stocks (now cells) (now lens) (now turns) ⌝ }
     ensures { λ r. ⌜ Put (now (page .entry)) 0 (report n sets (codesFrom (now (cells .entry)) (now (lens .entry)) 0 stocks) (now (turns .entry))) (now (page .exit)) r ⌝ }
 {
     let stations = n as usize;

@@ -13,7 +13,7 @@ same-length : tie.Need-same-length
 same-length c = search needs
 
 returns-2 : tie.Need-returns-2
-returns-2 c = handed _ _ _ _ (c .before .before .before .before .before .if1 .left) (c .before .before .put-bytes .ensures)
+returns-2 c = handed _ _ _ _ (c .before .before .before .before .if1 .left) (c .before .before .put-bytes .ensures)
 
 pub hand-out-spec : {M : Type 1} → statement M
 hand-out-spec = tie.close (tie.spec returns put-bytes-requires same-length returns-2)

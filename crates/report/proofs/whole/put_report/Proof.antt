@@ -1,14 +1,9 @@
+use native.Mathlib.Omega.{arith}
+use Rattle.report.specs.Put.{codesFrom}
+use Rattle.report.proofs.Running.{counts-and-idle, report-put}
 use borrow.Author.Needs.{needs}
 use Rattle.report.proofs.whole.put_report.Statement.{statement}
 use Rattle.report.proofs.whole.put_report.Tie as tie
-use Rattle.report.proofs.whole.put_report.Reads as reads
-use Rattle.report.proofs.whole.put_report.Lts as lts
-use Rattle.board.proofs.playing.play_out.Reads as play-out-reads
-use Rattle.board.proofs.start.fresh.Reads as fresh-reads
-use Rattle.report.proofs.lines.put_run.Reads as put-run-reads
-use Rattle.report.proofs.listing.counted.Reads as counted-reads
-use Rattle.report.proofs.listing.put_stations.Reads as put-stations-reads
-use Rattle.report.proofs.listing.put_stocks.Reads as put-stocks-reads
 
 fresh-requires : tie.Need-fresh-requires
 fresh-requires c κs = search needs
@@ -20,7 +15,11 @@ counted-requires : tie.Need-counted-requires
 counted-requires c κs = search needs
 
 sub-idle : tie.Need-sub-idle
-sub-idle c = ?
+sub-idle c =
+    let a = c .before .before .before .before .before .before .before .before .before .args in
+    let p = c .before .before .before .before .before .before .before .before .before .pre in
+    let e = counts-and-idle (a .n) (a .sets) (a .turns .now) (p .high) (p .sets-long) (p .few) (p .named) (c .before .before .before .before .fresh .result) (c .before .before .before .play-out .result) (c .counted .result) (c .before .before .before .before .fresh .ensures) (c .before .before .before .play-out .ensures) (c .counted .ensures) in
+    omega arith
 
 cast-put-run : tie.Need-cast-put-run
 cast-put-run c = search needs
@@ -41,7 +40,11 @@ same-length : tie.Need-same-length
 same-length c = search needs
 
 returns : tie.Need-returns
-returns c = ?
+returns c =
+    let a = c .before .before .before .before .before .before .before .before .before .before .before .before .before .before .before .before .before .before .before .before .before .args in
+    let p = c .before .before .before .before .before .before .before .before .before .before .before .before .before .before .before .before .before .before .before .before .before .pre in
+    report-put (a .n) (a .sets) (a .turns .now) (p .high) (p .sets-long) (p .few) (p .named) _ _ _ _ _ _ _ (c .before .before .before .before .before .before .before .before .before .before .before .before .counted .result) (codesFrom (a .cells .now) (a .lens .now) 0 (a .stocks)) (c .before .before .before .before .before .before .before .before .before .before .before .before .before .before .before .before .fresh .result) (c .before .before .before .before .before .before .before .before .before .before .before .before .before .before .before .play-out .result)
+    (c .before .before .before .before .before .before .before .before .before .before .before .before .before .before .before .before .fresh .ensures) (c .before .before .before .before .before .before .before .before .before .before .before .before .before .before .before .play-out .ensures) (c .before .before .before .before .before .before .before .before .before .before .before .before .counted .ensures) (c .before .before .before .before .before .before .before .before .before .before .put-run .ensures .0) (c .before .before .before .before .before .before .put-stocks .ensures .0) (c .before .before .put-stations .ensures)
 
 pub put-report-spec : {M : Type 1} → statement M
 put-report-spec =

@@ -10,19 +10,18 @@ use borrow.Author.Tests.{ltb-true, leb-true, ltb-false}
 use lib.Dec.{leb, ltb, eqb}
 use lib.ListN.{length, getD, set, length-append, length-set, length-replicate, List·getD-append, List·getD-eq-default}
 use lib.Seq.{getD-at}
-use Rattle.method.specs.Demand.{Station}
 use Rattle.plan.specs.Limits.{mostBytes, mostStations, mostStocks, mostTurns, mostCode}
 use Rattle.plan.specs.Text.{LF, space, parted, onto, joined, linesOf, fieldsOf, all, fine, same}
 use Rattle.plan.specs.Number.{empty, numberTo}
 use Rattle.plan.specs.Code.{codeOf, before, stockOf}
 use Rattle.plan.specs.declared.Word.{Word}
 use Rattle.plan.specs.declared.Word.the-variants.{Has, Turn, Other}
 use Rattle.plan.specs.declared.Fault.{Fault}
 use Rattle.plan.specs.declared.Fault.the-variants.{LongText, NoGang, StrayByte, NoCode, MoreStocks, MoreTurns}
 use Rattle.plan.specs.Plan.{Out, taken, no, then, each, stationIn, station, takeTurn, Holding, holding, withStock, stockAt, addStock, takeCode, Stocked, stocked, hasLine, turnLine, Held, held, GANG, wordOf, wordLine, laterFields, laterLine, gangOf, gangIn, firstLine, Reading, plan, refused, atLine, laterLines, allLines, sized, reading}
 use Rattle.plan.specs.Plan as Plan
 use Rattle.plan.proofs.Numbers.{number-most}
 use Rattle.plan.proofs.Pieces.{run-most}
 
 -- ---- what is taken came of what was taken before
 
@@ -50,21 +49,26 @@ each-keeps P step keeps a b (f ∷ fs) p e =
 
 -- ---- turns
 
+-- one of n stations
+pub record Named (n i : ℕ) : Type 0 where
+  pub low : 1 ≤ i
+  pub high : i ≤ n
+
 pub record TurnsFine (n : ℕ) (turns : List ℕ) : Type 0 where
   pub few : length turns ≤ mostTurns
-  pub named : (t : ℕ) → t < length turns → Station n (getD turns t 0)
+  pub named : (t : ℕ) → t < length turns → Named n (getD turns t 0)
 
-station-taken : (n : ℕ) (f : List ℕ) (i : ℕ) → station n f ≡ taken i → Station n i
+station-taken : (n : ℕ) (f : List ℕ) (i : ℕ) → station n f ≡ taken i → Named n i
 unfolding station
 station-taken n f i e = go (numberTo n f) refl e
   where
-    go : (m : ℕ) → numberTo n f ≡ m → stationIn m ≡ taken i → Station n i
+    go : (m : ℕ) → numberTo n f ≡ m → stationIn m ≡ taken i → Named n i
     go zero s e = absurd (no-taken e)
     go (suc m) s e =
         let high : suc m ≤ n = rw s at (number-most n f) in
-        subst (Station n) (taken-is e) (record { low = omega arith; high = high })
+        subst (Named n) (taken-is e) (record { low = omega arith; high = high })
 
-turns-more : (n : ℕ) (turns : List ℕ) (i : ℕ) → TurnsFine n turns → length turns < mostTurns → Station n i → TurnsFine n (turns ++ (i ∷ []))
+turns-more : (n : ℕ) (turns : List ℕ) (i : ℕ) → TurnsFine n turns → length turns < mostTurns → Named n i → TurnsFine n (turns ++ (i ∷ []))
 turns-more n turns i p h st =
     let long : length (turns ++ (i ∷ [])) ≡ length turns + 1 = length-append turns (i ∷ []) in
     record {
