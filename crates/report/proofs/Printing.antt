@@ -5,7 +5,7 @@ use mathlib.Core.List.{List, [], _∷_, _++_, map, append-assoc}
 use native.Mathlib.Nat.{add-zero}
 use native.Mathlib.Omega.{arith}
 use lib.ListN.{length, getD, take, drop, length-append, length-map, List·getD-append}
-use lib.Seq.{take-at, drop-at, getD-drop, drop-drop, take-append-seam}
+use lib.Seq.{sets, length-sets, length-take-le, take-at, drop-at, getD-drop, drop-drop, take-append-seam}
 use Rattle.method.specs.Demand.{Station}
 use Rattle.plan.specs.Limits.{mostStations, mostStocks, mostTurns, mostCode}
 use Rattle.plan.specs.declared.Fault.{Fault}
@@ -45,6 +45,20 @@ module _ (cells lens : List ℕ) where
       let q′ : drop (suc k) lens ≡ map length cs ++ y = ap (λ (n : ℕ). drop n lens) (sym one) ∙ sym (drop-drop 1 k lens) ∙ ap (drop 1) q in
       let rest : codesFrom cells lens (suc k) (length cs) ≡ cs = cells-back (suc k) cs z y (λ j l. short (suc j) (omega arith)) p′ q′ in
       rw (code, rest)
+
+cells-length : (cs : List (List ℕ)) → ((j : ℕ) → j < length cs → length (getD cs j []) ≤ mostCode) → length (cellsOf cs) ≡ length cs * mostCode
+unfolding cellsOf
+cells-length [] h = refl
+cells-length (c ∷ cs) h =
+    let a = length-append (padded mostCode c) (cellsOf cs) in
+    let b = padded-long mostCode c (h 0 (omega arith)) in
+    let ih = cells-length cs (λ j l. h (suc j) (omega arith)) in
+    omega arith
+
+map-at : (cs : List (List ℕ)) (j : ℕ) → getD (map length cs) j 0 ≡ length (getD cs j [])
+map-at [] j = refl
+map-at (c ∷ cs) zero = refl
+map-at (c ∷ cs) (suc j) = map-at cs j
 
 -- ---- what was read
 
@@ -98,15 +112,6 @@ module _ {text : List ℕ} {n stocks turned : ℕ} {sets cells lens turns : List
       let l = cells-length (r .of .stocks .codes) (sound .stocks-fine .fine .short) in
       let m = sound .stocks-fine .fine .most in
       omega arith
-    where
-      cells-length : (cs : List (List ℕ)) → ((j : ℕ) → j < length cs → length (getD cs j []) ≤ mostCode) → length (cellsOf cs) ≡ length cs * mostCode
-      unfolding cellsOf
-      cells-length [] h = refl
-      cells-length (c ∷ cs) h =
-          let a = length-append (padded mostCode c) (cellsOf cs) in
-          let b = padded-long mostCode c (h 0 (omega arith)) in
-          let ih = cells-length cs (λ j l. h (suc j) (omega arith)) in
-          omega arith
 
   pub cells-long : length cells ≡ mostStocks * mostCode
   cells-long = ap length (r .cells-are) ∙ padded-long (mostStocks * mostCode) (cellsOf (r .of .stocks .codes)) cells-of
@@ -123,6 +128,9 @@ module _ {text : List ℕ} {n stocks turned : ℕ} {sets cells lens turns : List
       let f = sound .turns-fine .few in
       let m = r .made in
       omega arith
+
+  pub prefix-long : turned ≡ length (take turned turns)
+  prefix-long = sym (length-take-le turned turns turns-long)
 
   turns-back : take turned turns ≡ r .of .turns
   unfolding padded
@@ -142,11 +150,6 @@ module _ {text : List ℕ} {n stocks turned : ℕ} {sets cells lens turns : List
       let m = length-map (r .of .stocks .codes) length in
       rw (r .lens-are, List·getD-append (map length (r .of .stocks .codes)) (zeros (mostStocks - length (map length (r .of .stocks .codes)))) 0 j (omega arith), map-at (r .of .stocks .codes) j)
       (sound .stocks-fine .fine .short j k)
-    where
-      map-at : (cs : List (List ℕ)) (j : ℕ) → getD (map length cs) j 0 ≡ length (getD cs j [])
-      map-at [] j = refl
-      map-at (c ∷ cs) zero = refl
-      map-at (c ∷ cs) (suc j) = map-at cs j
 
   pub ready : (page : List ℕ) → length page ≡ mostPrinted → Ready page n sets stocks cells lens (take turned turns)
   ready page long =
@@ -165,7 +168,7 @@ module _ {text : List ℕ} {n stocks turned : ℕ} {sets cells lens turns : List
 
 -- ---- what stands in the page is handed out
 
-module _ {text page last : List ℕ} {end : ℕ} {line : List ℕ} (put : Put page 0 line last end) (is : line ≡ printed text) (long : length page ≡ mostPrinted) where
+module _ (text : List ℕ) {page last : List ℕ} {end : ℕ} {line : List ℕ} (put : Put page 0 line last end) (is : line ≡ printed text) (long : length page ≡ mostPrinted) where
   front : last ≡ line ++ drop (length line) page
   front = put-front put (let m = printed-most text in let e = ap length is in omega arith)
 
@@ -175,13 +178,19 @@ module _ {text page last : List ℕ} {end : ℕ} {line : List ℕ} (put : Put pa
   pub whole-text : take end last ≡ printed text
   whole-text = ap (take end) front ∙ take-at line (drop (length line) page) end (sym end-is) ∙ is
 
-  pub end-most : end ≤ mostPrinted
-  end-most = let m = printed-most text in let e = ap length is in let k = end-is in omega arith
+  pub end-within : end ≤ length last
+  end-within = let m = printed-most text in let e = ap length is in let k = end-is in let l = ap length (put .laid) ∙ length-sets page 0 line in omega arith
 
-  pub given-out : {out last′ : List ℕ} {a : Printed} → (a ≡ answerOf (take end last) (length out)) × (last′ ≡ bufferOf (take end last) out)
+  pub end-long : end ≡ length (take end last)
+  end-long = sym (length-take-le end last end-within)
+
+  pub given-out : (out : List ℕ) {last′ : List ℕ} {a : Printed} → (a ≡ answerOf (take end last) (length out)) × (last′ ≡ bufferOf (take end last) out)
       → (a ≡ answerOf (printed text) (length out)) × (last′ ≡ bufferOf (printed text) out)
-  given-out e = (rw (← whole-text) (e .0), rw (← whole-text) (e .1))
+  given-out out e = (rw (← whole-text) (e .0), rw (← whole-text) (e .1))
 
 pub refusal-is : (text : List ℕ) (fault f : Fault) (number place : ℕ) → reading text ≡ refused f place → numberOf fault ≡ numberOf f → number ≡ numberOf fault → refusalLine number place ≡ printed text
 unfolding printed
 refusal-is text fault f number place e g h = rw (e, h, g)
+
+pub place-small : (text : List ℕ) (f : Fault) (place : ℕ) → reading text ≡ refused f place → place < 65536
+place-small text f place e = let m = place-most text f place e in omega arith

@@ -3,7 +3,8 @@ use Prim.Native.Nat.{ℕ, zero, suc, _+_, _-_, _*_, _≤_, _<_}
 use mathlib.Core.Path.{_≡_, refl, sym, ap, _∙_}
 use mathlib.Core.Bool.{Bool, true, false}
 use mathlib.Core.List.{List, [], _∷_, _++_}
-use native.Mathlib.Nat.{add-zero, suc-mul}
+use native.Mathlib.Nat.{add-zero, suc-mul, le-trans}
+use borrow.Author.Tests.{le-leb}
 use native.Mathlib.Omega.{arith}
 use lib.ListN.{length, getD, take, length-append, length-take}
 use lib.Seq.{getD-take}
@@ -25,7 +26,8 @@ use Rattle.plan.specs.Refusal.{numberOf}
 use Rattle.plan.specs.Plan.{Held, Reading, plan, refused, reading}
 use Rattle.report.specs.Digits.{decimal, width, hex}
 use Rattle.report.specs.Lines.{RUN, STOCK, ST, NO, dash, line, refusalLine, runLine, stockLine, setShown, stationLine, numbered}
-use Rattle.report.specs.Printed.{lines, report, reportOf, printed, mostPrinted}
+use Rattle.report.specs.declared.Printed.the-variants.{Whole}
+use Rattle.report.specs.Printed.{lines, report, reportOf, printed, mostPrinted, answerOf}
 use Rattle.report.proofs.Numerals.{digits-length, width-five}
 use Rattle.plan.proofs.Taken.{Sound, plan-sound, place-most}
 
@@ -184,3 +186,8 @@ printed-most text = go (reading text) refl
     go : (r : Reading) → reading text ≡ r → length (reportOf r) ≤ mostPrinted
     go (plan h) e = report-most h (plan-sound text h e)
     go (refused fault place) e = let p = place-most text fault place e in refusal-most (numberOf fault) place (fault-most fault) (omega arith)
+
+-- so a buffer of mostPrinted bytes always suffices
+pub always-whole : (text : List ℕ) (room : ℕ) → mostPrinted ≤ room → answerOf (printed text) room ≡ Whole (length (printed text))
+unfolding answerOf
+always-whole text room h = rw (le-leb (length (printed text)) room (le-trans (printed-most text) h))

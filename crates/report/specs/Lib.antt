@@ -3,4 +3,3 @@ pub mod Digits
 pub mod Lines
 pub mod Printed
 pub mod Put
-pub mod Worked

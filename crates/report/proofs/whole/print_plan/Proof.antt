@@ -1,13 +1,26 @@
+use mathlib.Core.Path.{_≡_, refl, sym}
+use Rattle.plan.specs.Refusal.{numberOf}
+use Rattle.plan.specs.Plan.{refused, reading}
+use Rattle.plan.specs.declared.Fault.{Fault}
+use Rattle.report.specs.Lines.{refusalLine}
+use Rattle.report.specs.Printed.{printed}
+use Rattle.report.proofs.Printing.{ReadOff, read-off, cells-long, lens-long, turns-long, prefix-long, ready, report-is, end-within, end-long, given-out, refused-off, refusal-is, place-small}
 use borrow.Author.Needs.{needs}
 use Rattle.report.proofs.whole.print_plan.Statement.{statement}
 use Rattle.report.proofs.whole.print_plan.Tie as tie
-use Rattle.report.proofs.whole.print_plan.Reads as reads
-use Rattle.report.proofs.whole.print_plan.Lts as lts
-use Rattle.plan.proofs.number_of.Reads as number-of-reads
-use Rattle.plan.proofs.read_plan.Reads as read-plan-reads
-use Rattle.report.proofs.lines.put_refusal.Reads as put-refusal-reads
-use Rattle.report.proofs.whole.hand_out.Reads as hand-out-reads
-use Rattle.report.proofs.whole.put_report.Reads as put-report-reads
+
+off : (c : tie.After-answer) → ReadOff (c .before .before .before .before .before .before .before .before .before .args .text .now) (c .answer .given .0 .0) (c .answer .given .0 .1 .0) (c .answer .given .0 .1 .1 .0)
+    (c .before .before .read-plan .last .1 .0) (c .before .before .read-plan .last .1 .1 .0) (c .before .before .read-plan .last .1 .1 .1 .0) (c .before .before .read-plan .last .1 .1 .1 .1 .0)
+off c =
+    let e = c .before .before .read-plan .ensures in
+    let r = c .answer .given in
+    read-off _ (c .before .before .read-plan .result) (r .0 .0) (r .0 .1 .0) (r .0 .1 .1 .0) _ _ _ _ _ _ _ _ (r .1) (e .0) (e .1 .0) (e .1 .1 .0) (e .1 .1 .1 .0) (e .1 .1 .1 .1)
+
+why : (c : tie.After-answer2) → (f : Fault) × (reading (c .before .before .before .before .before .before .before .before .before .args .text .now) ≡ refused f (c .answer2 .given .0 .1 .0)) × (numberOf (c .answer2 .given .0 .0) ≡ numberOf f)
+why c = refused-off _ (c .before .before .read-plan .result) (c .answer2 .given .0 .0) (c .answer2 .given .0 .1 .0) (c .answer2 .given .1) (c .before .before .read-plan .ensures .0)
+
+no-line : (c : tie.After-number-of) → refusalLine (c .number-of .result) (c .before .before .before .answer2 .given .0 .1 .0) ≡ printed (c .before .before .before .before .before .before .before .before .before .before .before .before .args .text .now)
+no-line c = let r = why (c .before .before .before) in refusal-is _ (c .before .before .before .answer2 .given .0 .0) (r .0) _ _ (r .1) (r .2) (c .number-of .ensures)
 
 read-plan-requires : tie.Need-read-plan-requires
 read-plan-requires c κs = search needs
@@ -19,25 +32,25 @@ slice-aggregate-put-report : tie.Need-slice-aggregate-put-report
 slice-aggregate-put-report c = search needs
 
 slice-aggregate-put-report-2 : tie.Need-slice-aggregate-put-report-2
-slice-aggregate-put-report-2 c = ?
+slice-aggregate-put-report-2 c = sym (cells-long (off (c .before .before .before)))
 
 slice-aggregate-put-report-3 : tie.Need-slice-aggregate-put-report-3
-slice-aggregate-put-report-3 c = ?
+slice-aggregate-put-report-3 c = sym (lens-long (off (c .before .before .before .before)))
 
 array-share-prefix-turns : tie.Need-array-share-prefix-turns
-array-share-prefix-turns c = ?
+array-share-prefix-turns c = turns-long (off (c .before .before .before .before))
 
 slice-aggregate-put-report-4 : tie.Need-slice-aggregate-put-report-4
-slice-aggregate-put-report-4 c = ?
+slice-aggregate-put-report-4 c = prefix-long (off (c .before .before .before .before .before))
 
 put-report-requires : tie.Need-put-report-requires
-put-report-requires c κs = ?
+put-report-requires c κs = ready (off (c .before .before .before .before .before)) _ refl
 
 array-share-prefix-page : tie.Need-array-share-prefix-page
-array-share-prefix-page c = ?
+array-share-prefix-page c = end-within _ (c .before .put-report .ensures) (report-is (off (c .before .before .before .before .before .before .before))) refl
 
 slice-aggregate-hand-out : tie.Need-slice-aggregate-hand-out
-slice-aggregate-hand-out c = ?
+slice-aggregate-hand-out c = end-long _ (c .before .before .put-report .ensures) (report-is (off (c .before .before .before .before .before .before .before .before))) refl
 
 hand-out-requires : tie.Need-hand-out-requires
 hand-out-requires c κs = search needs
@@ -55,16 +68,16 @@ cast-put-refusal : tie.Need-cast-put-refusal
 cast-put-refusal c = search needs
 
 cast-put-refusal-2 : tie.Need-cast-put-refusal-2
-cast-put-refusal-2 c = ?
+cast-put-refusal-2 c = let r = why (c .before .before .before) in record { fits = place-small _ (r .0) _ (r .1) }
 
 put-refusal-requires : tie.Need-put-refusal-requires
 put-refusal-requires c κs = search needs
 
 array-share-prefix-page-2 : tie.Need-array-share-prefix-page-2
-array-share-prefix-page-2 c = ?
+array-share-prefix-page-2 c = end-within _ (c .before .put-refusal .ensures) (no-line (c .before .before)) refl
 
 slice-aggregate-hand-out-2 : tie.Need-slice-aggregate-hand-out-2
-slice-aggregate-hand-out-2 c = ?
+slice-aggregate-hand-out-2 c = end-long _ (c .before .before .put-refusal .ensures) (no-line (c .before .before .before)) refl
 
 hand-out-requires-2 : tie.Need-hand-out-requires-2
 hand-out-requires-2 c κs = search needs
@@ -73,13 +86,13 @@ same-length : tie.Need-same-length
 same-length c = search needs
 
 returns : tie.Need-returns
-returns c = ?
+returns c = given-out _ (c .before .before .before .before .before .before .put-report .ensures) (report-is (off (c .before .before .before .before .before .before .before .before .before .before .before .before))) refl _ (c .before .before .hand-out .ensures)
 
 same-length-2 : tie.Need-same-length-2
 same-length-2 c = search needs
 
 returns-2 : tie.Need-returns-2
-returns-2 c = ?
+returns-2 c = given-out _ (c .before .before .before .before .before .before .put-refusal .ensures) (no-line (c .before .before .before .before .before .before .before)) refl _ (c .before .before .hand-out2 .ensures)
 
 pub print-plan-spec : {M : Type 1} → statement M
 print-plan-spec =
