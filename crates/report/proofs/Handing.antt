@@ -3,9 +3,12 @@ use Prim.Native.Nat.{ℕ, _+_, _≤_, _<_}
 use mathlib.Core.Path.{_≡_, refl, sym, ap, _∙_}
 use mathlib.Core.List.{List, _++_}
 use native.Mathlib.Omega.{arith}
-use borrow.Author.Tests.{le-leb, lt-leb}
+use mathlib.Core.Bool.{Bool, true, false, cond}
+use borrow.Author.Tests.{le-leb, lt-leb, leb-true}
+use lib.Dec.{leb}
 use lib.ListN.{length, drop, take}
-use lib.Seq.{sets, sets-eq}
+use lib.Seq.{sets, sets-eq, length-take-le}
+use Rattle.report.specs.declared.Printed.{Printed}
 use Rattle.report.specs.declared.Printed.the-variants.{Whole, TooSmall}
 use Rattle.report.specs.Printed.{answerOf, bufferOf}
 use Rattle.report.specs.Put.{Put}
@@ -23,3 +26,18 @@ put-front {page} {last} {text} {next} p h =
 pub handed : (text out last : List ℕ) (next : ℕ) → length text ≤ length out → Put out 0 text last next → (Whole (length text) ≡ answerOf text (length out)) × (last ≡ bufferOf text out)
 unfolding answerOf bufferOf
 handed text out last next h p = (rw (le-leb (length text) (length out) h), put-front p h ∙ rw (le-leb (length text) (length out) h))
+
+-- a text that was handed out whole ends within the buffer
+pub whole-within : (text out last : List ℕ) (r : Printed) (end : ℕ) → r ≡ Whole end → r ≡ answerOf text (length out) → length last ≡ length out → end ≤ length last
+unfolding answerOf
+whole-within text out last r end w e l = go (leb (length text) (length out)) refl (sym w ∙ e)
+  where
+    go : (t : Bool) → leb (length text) (length out) ≡ t → Whole end ≡ cond t (Whole (length text)) TooSmall → end ≤ length last
+    go true q a =
+        let same : end ≡ length text = cc in
+        let h : length text ≤ length out = leb-true (length text) (length out) q in
+        omega arith
+    go false q a = absurd (let z : _≡_ {A = ℕ} 0 1 = cc in omega arith)
+
+pub whole-long : (text out last : List ℕ) (r : Printed) (end : ℕ) → r ≡ Whole end → r ≡ answerOf text (length out) → length last ≡ length out → end ≡ length (take end last)
+whole-long text out last r end w e l = sym (length-take-le end last (whole-within text out last r end w e l))

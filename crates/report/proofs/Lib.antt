@@ -4,7 +4,7 @@ mod Numerals
 mod Fielding
 mod Lining
 mod Listed
-mod Handing
+pub mod Handing
 mod Running
 pub mod Sizes
 mod Printing
