@@ -1,4 +1,5 @@
 // Whether a plan prints its report, and a run call gives its answer.
+ghost use mathlib.Core.Path.{_≡_};
 ghost use Prim.Native.Nat.{_≤_};
 ghost use lib.ListN.{length};
 use super::parts::number_at;
@@ -6,14 +7,21 @@ use super::parts::span_at;
 use super::parts::span_of;
 use report::Printed;
 
-// What an entry of the data came to, and where the next one stands.
+// What an entry of a file came to, and where the next one stands.
 pub struct Judged {
     pub agrees: bool,
     pub next: usize,
 }
 
+// Room for the longest report.
+fn page() -> [u8; 2310]
+    ensures { λ r. ⌜ 2310 ≡ length r ⌝ }
+{
+    [0; 2310]
+}
+
 fn plan_agrees(plan: &[u8], report: &[u8]) -> bool {
-    let mut page = [0u8; 2310];
+    let mut page = page();
     match report::whole::print_plan(plan, &mut page) {
         Printed::Whole(end) => check::same(&page[..end], report),
         Printed::TooSmall => false,
@@ -37,17 +45,27 @@ pub fn judge_plan(file: &[u8], at: usize) -> Judged
 }
 
 // Every answer byte is EE hex before the call.
+fn blank() -> [u8; 512]
+    ensures { λ r. ⌜ 512 ≡ length r ⌝ }
+{
+    [0xee; 512]
+}
+
+fn answer_agrees(n: u64, inputs: &[u8], turns: &[u8], number: u64, want: &[u8], answer: &mut [u8]) -> bool {
+    let returned = run::call::gang_run(n, inputs, turns, answer);
+    if returned as u64 != number {
+        return false;
+    }
+    check::same(answer, want)
+}
+
 fn call_agrees(n: u64, inputs: &[u8], turns: &[u8], number: u64, want: &[u8]) -> bool {
-    let mut answer = [0xeeu8; 512];
+    let mut answer = blank();
     let size = want.len();
     if 512 < size {
         return false;
     }
-    let returned = run::call::gang_run(n, inputs, turns, &mut answer[..size]);
-    if returned as u64 != number {
-        return false;
-    }
-    check::same(&answer[..size], want)
+    answer_agrees(n, inputs, turns, number, want, &mut answer[..size])
 }
 
 // An entry is n, the length of the inputs, the inputs, the length of the turns, the turns, the length of the answer, the number

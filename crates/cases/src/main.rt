@@ -40,11 +40,18 @@ fn judge(kind: Kind, file: &[u8], at: usize) -> Judged
     }
 }
 
-fn tell(path: &[u8], entry: u64) {
+// One for an entry that agrees. One that differs is told.
+fn count_or_tell(path: &[u8], entry: u64, agrees: bool) -> u64
+    ensures { λ r. ⌜ r ≤ 1 ⌝ }
+{
+    if agrees {
+        return 1;
+    }
     io::write_all(STDOUT_FILENO, path);
     io::write_all(STDOUT_FILENO, b" differs at entry ");
     io::print_decimal(STDOUT_FILENO, entry);
     io::write_all(STDOUT_FILENO, b"\n");
+    0
 }
 
 // Every entry of a file, from the first on. An entry takes a byte at least, so there are no more of them than bytes.
@@ -58,11 +65,7 @@ fn run_all(kind: Kind, path: &[u8], file: &[u8]) -> Tally {
             return Tally { agree, of };
         }
         let judged = judge(kind, file, at);
-        if judged.agrees {
-            agree += 1;
-        } else {
-            tell(path, of);
-        }
+        agree += count_or_tell(path, of, judged.agrees);
         of += 1;
         at = judged.next;
         k += 1;

@@ -1,4 +1,4 @@
-// The parts of the data: numbers of four bytes, and bytes that stand behind their length. Where the data ends too soon there is nothing.
+// The parts of a file: numbers of four bytes, and bytes that stand behind their length. Where the file ends too soon there is nothing.
 ghost use Prim.Native.Nat.{_<_, _≤_};
 ghost use lib.ListN.{length};
 

@@ -28,16 +28,16 @@ unfolding answerOf bufferOf
 handed text out last next h p = (rw (le-leb (length text) (length out) h), put-front p h ∙ rw (le-leb (length text) (length out) h))
 
 -- a text that was handed out whole ends within the buffer
-pub whole-within : (text out last : List ℕ) (r : Printed) (end : ℕ) → r ≡ Whole end → r ≡ answerOf text (length out) → length last ≡ length out → end ≤ length last
+pub whole-within : (text last : List ℕ) (room : ℕ) (r : Printed) (end : ℕ) → r ≡ Whole end → r ≡ answerOf text room → length last ≡ room → end ≤ length last
 unfolding answerOf
-whole-within text out last r end w e l = go (leb (length text) (length out)) refl (sym w ∙ e)
+whole-within text last room r end w e l = go (leb (length text) room) refl (sym w ∙ e)
   where
-    go : (t : Bool) → leb (length text) (length out) ≡ t → Whole end ≡ cond t (Whole (length text)) TooSmall → end ≤ length last
+    go : (t : Bool) → leb (length text) room ≡ t → Whole end ≡ cond t (Whole (length text)) TooSmall → end ≤ length last
     go true q a =
         let same : end ≡ length text = cc in
-        let h : length text ≤ length out = leb-true (length text) (length out) q in
+        let h : length text ≤ room = leb-true (length text) room q in
         omega arith
     go false q a = absurd (let z : _≡_ {A = ℕ} 0 1 = cc in omega arith)
 
-pub whole-long : (text out last : List ℕ) (r : Printed) (end : ℕ) → r ≡ Whole end → r ≡ answerOf text (length out) → length last ≡ length out → end ≡ length (take end last)
-whole-long text out last r end w e l = sym (length-take-le end last (whole-within text out last r end w e l))
+pub whole-long : (text last : List ℕ) (room : ℕ) (r : Printed) (end : ℕ) → r ≡ Whole end → r ≡ answerOf text room → length last ≡ room → end ≡ length (take end last)
+whole-long text last room r end w e l = sym (length-take-le end last (whole-within text last room r end w e l))

@@ -1,13 +1,7 @@
+use Rattle.report.proofs.Handing.{whole-within, whole-long}
 use borrow.Author.Needs.{needs}
 use Rattle.gangrun.proofs.main.Statement.{statement}
 use Rattle.gangrun.proofs.main.Tie as tie
-use Rattle.gangrun.proofs.main.Reads as reads
-use Rattle.gangrun.proofs.main.Lts as lts
-use Rattle.gangrun.proofs.report_room.Reads as report-room-reads
-use Rattle.gangrun.proofs.text_room.Reads as text-room-reads
-use Rattle.input.proofs.read_all.Reads as read-all-reads
-use Rattle.io.proofs.write_all.Reads as write-all-reads
-use Rattle.report.proofs.whole.print_plan.Reads as print-plan-reads
 
 text-room-requires : tie.Need-text-room-requires
 text-room-requires c κs = search needs
@@ -37,10 +31,10 @@ enum-known-end : tie.Need-enum-known-end
 enum-known-end c = search needs
 
 array-share-prefix-page : tie.Need-array-share-prefix-page
-array-share-prefix-page c = ?
+array-share-prefix-page c = whole-within _ (c .before .before .before .before .print-plan .last .1 .0) _ (c .before .before .before .before .print-plan .result) _ (c .before .end .given .1) (c .before .before .before .before .print-plan .ensures .0) (c .before .before .before .before .print-plan .kept .1 .0)
 
 slice-aggregate-write-all : tie.Need-slice-aggregate-write-all
-slice-aggregate-write-all c = ?
+slice-aggregate-write-all c = whole-long _ (c .before .before .before .before .before .print-plan .last .1 .0) _ (c .before .before .before .before .before .print-plan .result) _ (c .before .before .end .given .1) (c .before .before .before .before .before .print-plan .ensures .0) (c .before .before .before .before .before .print-plan .kept .1 .0)
 
 write-all-requires : tie.Need-write-all-requires
 write-all-requires c κs = search needs
