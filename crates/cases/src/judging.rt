@@ -51,7 +51,14 @@ fn blank() -> [u8; 512]
     [0xee; 512]
 }
 
-fn answer_agrees(n: u64, inputs: &[u8], turns: &[u8], number: u64, want: &[u8], answer: &mut [u8]) -> bool {
+fn answer_agrees(
+    n: u64,
+    inputs: &[u8],
+    turns: &[u8],
+    number: u64,
+    want: &[u8],
+    answer: &mut [u8],
+) -> bool {
     let returned = run::call::gang_run(n, inputs, turns, answer);
     if returned as u64 != number {
         return false;
@@ -87,7 +94,13 @@ pub fn judge_call(file: &[u8], at: usize) -> Judged
     let e = answer.start;
     let f = answer.end;
     Judged {
-        agrees: call_agrees(n as u64, &file[a..b], &file[c..d], number as u64, &file[e..f]),
+        agrees: call_agrees(
+            n as u64,
+            &file[a..b],
+            &file[c..d],
+            number as u64,
+            &file[e..f],
+        ),
         next: f,
     }
 }

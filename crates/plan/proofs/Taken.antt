@@ -74,10 +74,10 @@ turns-more n turns i p h st =
     record {
       few = omega arith;
       named =
-        λ t l.
-        let le : t ≤ length turns = omega arith in
-        ⊎-elim (λ (e : t ≡ length turns). rw (getD-at turns i [] 0 t (sym e)) st)
-        (λ (m : t < length turns). rw (List·getD-append turns (i ∷ []) 0 t m) (p .named t m)) (eq-or-lt-of-le le);
+          λ t l.
+          let le : t ≤ length turns = omega arith in
+          ⊎-elim (λ (e : t ≡ length turns). rw (getD-at turns i [] 0 t (sym e)) st)
+          (λ (m : t < length turns). rw (List·getD-append turns (i ∷ []) 0 t m) (p .named t m)) (eq-or-lt-of-le le);
     }
 
 turn-keeps : (n : ℕ) (a b : List ℕ) (f : List ℕ) → TurnsFine n a → takeTurn n a f ≡ taken b → TurnsFine n b
@@ -129,10 +129,10 @@ codes-more codes c p h s =
     record {
       most = omega arith;
       short =
-        λ j l.
-        let le : j ≤ length codes = omega arith in
-        ⊎-elim (λ (e : j ≡ length codes). rw (getD-at codes c [] [] j (sym e)) s)
-        (λ (m : j < length codes). rw (List·getD-append codes (c ∷ []) [] j m) (p .short j m)) (eq-or-lt-of-le le);
+          λ j l.
+          let le : j ≤ length codes = omega arith in
+          ⊎-elim (λ (e : j ≡ length codes). rw (getD-at codes c [] [] j (sym e)) s)
+          (λ (m : j < length codes). rw (List·getD-append codes (c ∷ []) [] j m) (p .short j m)) (eq-or-lt-of-le le);
     }
 
 add-keeps : (h h′ : Holding) (c : List ℕ) → CodesFine (h .codes) → length c ≤ mostCode → addStock h c ≡ taken h′ → CodesFine (h′ .codes)

@@ -48,11 +48,11 @@ digited-more {page₀} {page} {at} {base} {w} {x} {rest} {left} d p h e = go lef
           long = length-set page (at + m) d ∙ p .long;
           tail = d ∷ p .tail;
           split =
-            p .split ∙ append-assoc (digits base m (rest / base)) (digit (rest % base) ∷ []) (p .tail)
-            ∙ ap (λ (c : ℕ). digits base m (rest / base) ++ (c ∷ p .tail)) (sym e);
+              p .split ∙ append-assoc (digits base m (rest / base)) (digit (rest % base) ∷ []) (p .tail)
+              ∙ ap (λ (c : ℕ). digits base m (rest / base) ++ (c ∷ p .tail)) (sym e);
           laid =
-            ap (λ (l : List ℕ). set l (at + m) d) (p .laid ∙ ap (λ (k : ℕ). sets page₀ k (p .tail)) here)
-            ∙ sets-front page₀ (at + m) (suc (at + m)) d (p .tail) (omega arith);
+              ap (λ (l : List ℕ). set l (at + m) d) (p .laid ∙ ap (λ (k : ℕ). sets page₀ k (p .tail)) here)
+              ∙ sets-front page₀ (at + m) (suc (at + m)) d (p .tail) (omega arith);
         })
 
 pub digited-all : {page₀ page : List ℕ} {at base w x rest left : ℕ} → Digited page₀ at base w x page rest left → left ≡ 0 → Put page₀ at (digits base w x) page (at + w)

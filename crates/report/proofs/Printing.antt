@@ -85,8 +85,10 @@ read-off text r n stocks turned sets cells lens turns a b c d e f g h i j = go (
       where
         counts-0 : counts n stocks turned ≡ counts (h .stations) (length (h .stocks .codes)) (length (h .turns)) → n ≡ h .stations
         counts-0 e = cc
+
         counts-1 : counts n stocks turned ≡ counts (h .stations) (length (h .stocks .codes)) (length (h .turns)) → stocks ≡ length (h .stocks .codes)
         counts-1 e = cc
+
         counts-2 : counts n stocks turned ≡ counts (h .stations) (length (h .stocks .codes)) (length (h .turns)) → turned ≡ length (h .turns)
         counts-2 e = cc
     go (refused fault place) o f g x y z = absurd (let w : _≡_ {A = ℕ} 0 1 = cc in omega arith)

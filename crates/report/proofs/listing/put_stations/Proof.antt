@@ -44,8 +44,7 @@ loop-again c =
     let a = start .args in
     let l = c .before .before .before .before .before .before .loop in
     let put = c .before .before .put-station in
-    let long : length (a .t4) ≡ 16 = start .good .1 .1 .1 .0 .1 .0 .1 in
-    (
+    let long : length (a .t4) ≡ 16 = start .good .1 .1 .1 .0 .1 .0 .1 in (
       putting-more _ _ (l .inv .0) (stations-more (a .n) (a .t4) (l .i) (c .before .before .before .before .before .loop-test .taken) (omega (arith, start .pre .0))) (put .ensures .0),
       omega arith,
       put .kept .0 ∙ l .inv .2,

@@ -64,8 +64,7 @@ loop-again : tie.Need-loop-again Inv-loop μ-loop
 loop-again c =
     let a = c .before .before .before .before .before .before .before .before .before .before .before .args in
     let l = c .before .before .before .before .before .before .before .loop in
-    let put = c .before .before .put-stock in
-    (
+    let put = c .before .before .put-stock in (
       putting-more _ _ (l .inv .0) (stocks-more (a .cells .now) (a .lens .now) (a .count) (l .k) (c .before .before .before .before .before .before .loop-test .taken)) (put .ensures .0),
       omega arith,
       put .kept .0 ∙ l .inv .2,
