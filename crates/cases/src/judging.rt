@@ -2,6 +2,7 @@
 ghost use mathlib.Core.Path.{_≡_};
 ghost use Prim.Native.Nat.{_≤_};
 ghost use lib.ListN.{length};
+ghost use Rattle.report.specs.Printed.{mostPrinted};
 use super::parts::number_at;
 use super::parts::span_at;
 use super::parts::span_of;
@@ -15,7 +16,7 @@ pub struct Judged {
 
 // Room for the longest report.
 fn page() -> [u8; 2310]
-    ensures { λ r. ⌜ 2310 ≡ length r ⌝ }
+    ensures { λ r. ⌜ mostPrinted ≡ length r ⌝ }
 {
     [0; 2310]
 }

@@ -25,7 +25,7 @@ use Rattle.plan.specs.declared.Fault.the-variants.{LongText, NoGang, StrayByte,
 use Rattle.plan.specs.Refusal.{numberOf}
 use Rattle.plan.specs.Plan.{Held, Reading, plan, refused, reading}
 use Rattle.report.specs.Digits.{decimal, width, hex}
-use Rattle.report.specs.Lines.{RUN, STOCK, ST, NO, dash, line, refusalLine, runLine, stockLine, setShown, stationLine, numbered}
+use Rattle.report.specs.Lines.{RUN, STOCK, ST, NO, dash, line, refusalLine, runLine, stockLine, setShown, stationLine, mostRun, mostStock, mostStation, numbered}
 use Rattle.report.specs.declared.Printed.the-variants.{Whole}
 use Rattle.report.specs.Printed.{lines, report, reportOf, printed, mostPrinted, answerOf}
 use Rattle.report.proofs.Numerals.{digits-length, width-five}
@@ -73,7 +73,7 @@ refusal-most number place h k =
     let b = decimal-most place k in
     rw (line-more NO (decimal number) (decimal place ∷ []), line-more (decimal number) (decimal place) [], line-last (decimal place)) (omega arith)
 
-run-most : (n turns idle : ℕ) → n < 100000 → turns < 100000 → idle < 100000 → length (runLine n turns idle) ≤ 22
+run-most : (n turns idle : ℕ) → n < 100000 → turns < 100000 → idle < 100000 → length (runLine n turns idle) ≤ mostRun
 unfolding runLine
 run-most n turns idle h k l =
     let a = decimal-most n h in
@@ -81,13 +81,13 @@ run-most n turns idle h k l =
     let c = decimal-most idle l in
     rw (line-more RUN (decimal n) (decimal turns ∷ decimal idle ∷ []), line-more (decimal n) (decimal turns) (decimal idle ∷ []), line-more (decimal turns) (decimal idle) [], line-last (decimal idle)) (omega arith)
 
-stock-most : (k : ℕ) (code : List ℕ) → k < 100000 → length code ≤ 12 → length (stockLine k code) ≤ 25
+stock-most : (k : ℕ) (code : List ℕ) → k < 100000 → length code ≤ mostCode → length (stockLine k code) ≤ mostStock
 unfolding stockLine
 stock-most k code h l =
     let a = decimal-most k h in
     rw (line-more STOCK (decimal k) (code ∷ []), line-more (decimal k) code [], line-last code) (omega arith)
 
-station-most : (i : ℕ) (row : Row) → i < 100000 → row .count < 100000 → length (stationLine i row) ≤ 43
+station-most : (i : ℕ) (row : Row) → i < 100000 → row .count < 100000 → length (stationLine i row) ≤ mostStation
 unfolding stationLine
 station-most i row h k =
     let state = decimal (stateNumber (row .state)) in
@@ -147,16 +147,16 @@ module _ (h : Held) (sound : Sound h) where
       let f = sound .turns-fine .few in
       omega arith
 
-  stocks-most : length (numbered stockLine 0 (h .stocks .codes)) ≤ length (h .stocks .codes) * 25
+  stocks-most : length (numbered stockLine 0 (h .stocks .codes)) ≤ length (h .stocks .codes) * mostStock
   stocks-most =
       let m = sound .stocks-fine .fine .most in
-      numbered-most stockLine 25 0 (h .stocks .codes) [] (λ j l. stock-most (0 + j) (getD (h .stocks .codes) j []) (omega arith) (sound .stocks-fine .fine .short j l))
+      numbered-most stockLine mostStock 0 (h .stocks .codes) [] (λ j l. stock-most (0 + j) (getD (h .stocks .codes) j []) (omega arith) (sound .stocks-fine .fine .short j l))
 
-  stations-most : length (numbered stationLine 1 (take (h .stations) (ends .rows))) ≤ length (take (h .stations) (ends .rows)) * 43
+  stations-most : length (numbered stationLine 1 (take (h .stations) (ends .rows))) ≤ length (take (h .stations) (ends .rows)) * mostStation
   stations-most =
       let long = length-take (h .stations) (ends .rows) in
       let m = sound .high in
-      numbered-most stationLine 43 1 (take (h .stations) (ends .rows)) (notBegun 0)
+      numbered-most stationLine mostStation 1 (take (h .stations) (ends .rows)) (notBegun 0)
       (λ j l.
       let k : j < h .stations = omega arith in
       station-most (1 + j) (getD (take (h .stations) (ends .rows)) j (notBegun 0)) (omega arith) (rw (getD-take (h .stations) (ends .rows) j (notBegun 0) k) (count-most j k)))

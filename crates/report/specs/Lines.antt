@@ -58,6 +58,16 @@ stationLine i row =
     ∷ setShown (isSettled (row .state)) 16 (stocksShown (row .state))
     ∷ [])
 
+-- the longest lines: no number has more than five digits, and no code more than 12 bytes
+abbrev pub mostRun : ℕ
+mostRun = 22
+
+abbrev pub mostStock : ℕ
+mostStock = 25
+
+abbrev pub mostStation : ℕ
+mostStation = 43
+
 -- a line for each, numbered from k on
 unfoldable pub numbered : {A : Type 0} → (ℕ → A → List ℕ) → ℕ → List A → List ℕ
 numbered lineOf k [] = []

@@ -13,7 +13,7 @@ use Rattle.plan.specs.Refusal.{numberOf}
 use Rattle.plan.specs.Plan.{Reading, plan, refused, reading}
 use Rattle.report.specs.declared.Printed.{Printed}
 use Rattle.report.specs.declared.Printed.the-variants.{Whole, TooSmall}
-use Rattle.report.specs.Lines.{refusalLine, runLine, stockLine, stationLine, numbered}
+use Rattle.report.specs.Lines.{refusalLine, runLine, stockLine, stationLine, mostRun, mostStock, mostStation, numbered}
 
 -- "`RUN`, n, turns, idle turns; then a `STOCK` line for each stock (number, code); then for each station `ST` .."
 unfoldable pub lines : ℕ → List (List ℕ) → ℕ → ℕ → Run → List ℕ
@@ -33,9 +33,9 @@ reportOf (refused fault place) = refusalLine (numberOf fault) place
 unfoldable pub printed : List ℕ → List ℕ
 printed text = reportOf (reading text)
 
--- no report is longer: the `RUN` line, the `STOCK` lines and the `ST` lines, with no number of more than five digits
+-- no report is longer: the `RUN` line, 64 `STOCK` lines and 16 `ST` lines
 abbrev pub mostPrinted : ℕ
-mostPrinted = 22 + mostStocks * 25 + mostStations * 43
+mostPrinted = mostRun + mostStocks * mostStock + mostStations * mostStation
 
 -- how a text is handed out in a lent buffer: its length, or that the buffer is too small
 unfoldable pub answerOf : List ℕ → ℕ → Printed

@@ -2,7 +2,8 @@
 ghost use mathlib.Core.Path.{_≡_};
 ghost use Prim.Native.Nat.{_+_, _≤_};
 ghost use lib.ListN.{length};
-ghost use Rattle.report.specs.Lines.{refusalLine, runLine, stockLine, stationLine};
+ghost use Rattle.plan.specs.Limits.{mostCode};
+ghost use Rattle.report.specs.Lines.{refusalLine, runLine, stockLine, stationLine, mostRun, mostStock, mostStation};
 ghost use Rattle.report.specs.Put.{Put};
 use super::fields::put_byte;
 use super::fields::put_bytes;
@@ -12,7 +13,7 @@ use method::Row;
 
 // `NO`, number, place.
 pub fn put_refusal(page: &mut [u8], number: u16, place: u16) -> usize
-    requires { ⌜ 22 ≤ length (now page) ⌝ }
+    requires { ⌜ mostRun ≤ length (now page) ⌝ }
     ensures { λ r. ⌜ Put (now (page .entry)) 0 (refusalLine number place) (now (page .exit)) r ⌝ }
 {
     let a = put_bytes(page, 0, b"NO\t");
@@ -22,9 +23,9 @@ pub fn put_refusal(page: &mut [u8], number: u16, place: u16) -> usize
 
 // `RUN`, n, turns, idle turns.
 pub fn put_run(page: &mut [u8], n: u16, turns: u16, idle: u16) -> usize
-    requires { ⌜ 22 ≤ length (now page) ⌝ }
+    requires { ⌜ mostRun ≤ length (now page) ⌝ }
     ensures { λ r. ⌜ Put (now (page .entry)) 0 (runLine n turns idle) (now (page .exit)) r ⌝ }
-    ensures { λ r. ⌜ r ≤ 22 ⌝ }
+    ensures { λ r. ⌜ r ≤ mostRun ⌝ }
 {
     let a = put_bytes(page, 0, b"RUN\t");
     let b = put_number(page, a, n, b'\t');
@@ -34,9 +35,9 @@ pub fn put_run(page: &mut [u8], n: u16, turns: u16, idle: u16) -> usize
 
 // `STOCK`, number, code.
 pub fn put_stock(page: &mut [u8], at: usize, k: u16, code: &[u8]) -> usize
-    requires { ⌜ (at + 25 ≤ length (now page)) × (length (now code) ≤ 12) ⌝ }
+    requires { ⌜ (at + mostStock ≤ length (now page)) × (length (now code) ≤ mostCode) ⌝ }
     ensures { λ r. ⌜ Put (now (page .entry)) at (stockLine k (now (code .entry))) (now (page .exit)) r ⌝ }
-    ensures { λ r. ⌜ r ≤ at + 25 ⌝ }
+    ensures { λ r. ⌜ r ≤ at + mostStock ⌝ }
 {
     let a = put_bytes(page, at, b"STOCK\t");
     let b = put_number(page, a, k, b'\t');
@@ -46,9 +47,9 @@ pub fn put_stock(page: &mut [u8], at: usize, k: u16, code: &[u8]) -> usize
 
 // `ST`, number, state, count, stations set, stocks set.
 pub fn put_station(page: &mut [u8], at: usize, i: u16, row: Row) -> usize
-    requires { ⌜ at + 43 ≤ length (now page) ⌝ }
+    requires { ⌜ at + mostStation ≤ length (now page) ⌝ }
     ensures { λ r. ⌜ Put (now (page .entry)) at (stationLine i row) (now (page .exit)) r ⌝ }
-    ensures { λ r. ⌜ r ≤ at + 43 ⌝ }
+    ensures { λ r. ⌜ r ≤ at + mostStation ⌝ }
 {
     let state = row.state;
     let number = run::shown::state_number(state);

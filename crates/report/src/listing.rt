@@ -2,7 +2,8 @@
 ghost use mathlib.Core.Path.{_≡_};
 ghost use Prim.Native.Nat.{_+_, _*_, _≤_, _<_};
 ghost use lib.ListN.{length, take};
-ghost use Rattle.report.specs.Lines.{numbered, stockLine, stationLine};
+ghost use Rattle.plan.specs.Limits.{mostStations};
+ghost use Rattle.report.specs.Lines.{numbered, stockLine, stationLine, mostStock, mostStation};
 ghost use Rattle.report.specs.Put.{Put, Celled, codesFrom, countsIn};
 use super::lines::put_station;
 use super::lines::put_stock;
@@ -16,7 +17,7 @@ fn wide(count: u16) -> usize
 
 // The counts of the first n stations, added up.
 pub fn counted(n: usize, rows: [Row; 16]) -> usize
-    requires { ⌜ n ≤ 16 ⌝ }
+    requires { ⌜ n ≤ mostStations ⌝ }
     ensures { λ r. ⌜ r ≡ countsIn rows n ⌝ }
 {
     let mut sum = 0;
@@ -31,9 +32,9 @@ pub fn counted(n: usize, rows: [Row; 16]) -> usize
 
 // A line for each stock, from its cell.
 pub fn put_stocks(page: &mut [u8], at: usize, count: usize, cells: &[u8], lens: &[usize]) -> usize
-    requires { ⌜ (at + count * 25 ≤ length (now page)) × Celled (now cells) (now lens) count ⌝ }
+    requires { ⌜ (at + count * mostStock ≤ length (now page)) × Celled (now cells) (now lens) count ⌝ }
     ensures { λ r. ⌜ Put (now (page .entry)) at (numbered stockLine 0 (codesFrom (now (cells .entry)) (now (lens .entry)) 0 count)) (now (page .exit)) r ⌝ }
-    ensures { λ r. ⌜ r ≤ at + count * 25 ⌝ }
+    ensures { λ r. ⌜ r ≤ at + count * mostStock ⌝ }
 {
     let mut next = at;
     let mut k = 0;
@@ -48,7 +49,7 @@ pub fn put_stocks(page: &mut [u8], at: usize, count: usize, cells: &[u8], lens: 
 
 // A line for each of the first n stations.
 pub fn put_stations(page: &mut [u8], at: usize, n: usize, rows: [Row; 16]) -> usize
-    requires { ⌜ (n ≤ 16) × (at + n * 43 ≤ length (now page)) ⌝ }
+    requires { ⌜ (n ≤ mostStations) × (at + n * mostStation ≤ length (now page)) ⌝ }
     ensures { λ r. ⌜ Put (now (page .entry)) at (numbered stationLine 1 (take n rows)) (now (page .exit)) r ⌝ }
 {
     let mut next = at;

@@ -2,14 +2,14 @@ use Prim.Native.Nat.{_+_, _-_, _*_, _≤_}
 use mathlib.Core.Path.{_≡_, refl, _∙_, ap}
 use native.Mathlib.Omega.{arith}
 use lib.ListN.{length, take}
-use Rattle.report.specs.Lines.{numbered, stationLine}
+use Rattle.report.specs.Lines.{numbered, stationLine, mostStation}
 use Rattle.report.proofs.Laying.{Putting, putting-none, putting-more, putting-all}
 use Rattle.report.proofs.Listed.{stationsFrom, stations-more, stations-all}
 use Rattle.report.proofs.listing.put_stations.Statement.{statement}
 use Rattle.report.proofs.listing.put_stations.Tie as tie
 
 abbrev Inv-loop : tie.InvT-loop
-Inv-loop page₀ at n rows next₀ i₀ page next i = Putting page₀ at (numbered stationLine 1 (take n rows)) page next (stationsFrom n rows i) × (i ≤ n) × (length page ≡ length page₀) × (next ≤ at + i * 43)
+Inv-loop page₀ at n rows next₀ i₀ page next i = Putting page₀ at (numbered stationLine 1 (take n rows)) page next (stationsFrom n rows i) × (i ≤ n) × (length page ≡ length page₀) × (next ≤ at + i * mostStation)
 
 abbrev μ-loop : tie.MeasureT-loop
 μ-loop page₀ at n rows next₀ i₀ page next i = n - i

@@ -2,7 +2,7 @@ use Prim.Native.Nat.{_+_, _-_, _*_, _≤_}
 use mathlib.Core.Path.{_≡_, refl, _∙_, ap}
 use native.Mathlib.Omega.{arith}
 use lib.ListN.{length, length-take}
-use Rattle.report.specs.Lines.{numbered, stockLine}
+use Rattle.report.specs.Lines.{numbered, stockLine, mostStock}
 use Rattle.report.specs.Put.{codesFrom}
 use Rattle.report.proofs.Laying.{Putting, putting-none, putting-more, putting-all}
 use Rattle.report.proofs.Listed.{stocksFrom, stocks-none, stocks-more, stocks-all}
@@ -10,7 +10,7 @@ use Rattle.report.proofs.listing.put_stocks.Statement.{statement}
 use Rattle.report.proofs.listing.put_stocks.Tie as tie
 
 abbrev Inv-loop : tie.InvT-loop
-Inv-loop page₀ at count cells lens next₀ k₀ page next k = Putting page₀ at (numbered stockLine 0 (codesFrom cells lens 0 count)) page next (stocksFrom cells lens count k) × (k ≤ count) × (length page ≡ length page₀) × (next ≤ at + k * 25)
+Inv-loop page₀ at count cells lens next₀ k₀ page next k = Putting page₀ at (numbered stockLine 0 (codesFrom cells lens 0 count)) page next (stocksFrom cells lens count k) × (k ≤ count) × (length page ≡ length page₀) × (next ≤ at + k * mostStock)
 
 abbrev μ-loop : tie.MeasureT-loop
 μ-loop page₀ at count cells lens next₀ k₀ page next k = count - k
