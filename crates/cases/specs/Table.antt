@@ -12,7 +12,7 @@ use Rattle.sets.specs.Arrays.{arrayLength, ownArray, otherArray, place}
 use Rattle.method.specs.Board.{depthFrom, depth, fresh, freshOn, rowOf, lineOf, levelOf, registerOf, withRow, withLine, withRegister}
 use Rattle.method.specs.Steps.{gather, climb, writing, pending, reach, again, roundOver, readOther, readOwn, absorbOwn, absorbOther, nextOp, absorb}
 use Rattle.method.specs.Turn.{goesOn, perform, named, turn, after}
-use Rattle.method.specs.Demand.{didOf, idleTurns}
+use Rattle.method.specs.Demand.{didOf, idleTurns, mostOperations}
 use Rattle.board.specs.Playing.{firstFrom}
 use Rattle.run.specs.Bytes.{bytesOf, numberIn, inputsIn}
 use Rattle.run.specs.Answer.{rowBytes, answerBytes}
@@ -106,3 +106,8 @@ given (calls n inputs turns number answer) = record { number = number; bytes-are
 cases-right : map worked cases ≡ map given cases
 unfolding cases worked given ones holds memberFrom memberAfter arrayLength ownArray otherArray place depthFrom depth fresh freshOn rowOf lineOf levelOf registerOf withRow withLine withRegister gather climb writing pending reach again roundOver readOther readOwn absorbOwn absorbOther nextOp absorb goesOn perform named turn after didOf idleTurns firstFrom bytesOf numberIn inputsIn rowBytes answerBytes firstBad tests firstUnwritten verdictOf parted all run same valueOn numberTo codeOf numberOf each station takeTurn takeCode addStock Plan.code wordOf hasLine turnLine laterLine gangOf firstLine laterLines reading digits widthIn width line refusalLine runLine stockLine stationLine numbered lines report printed
 cases-right = refl
+
+-- J: "the limit there is 107"
+limit-of-sixteen : mostOperations 16 ≡ 107
+unfolding mostOperations depth depthFrom
+limit-of-sixteen = refl
