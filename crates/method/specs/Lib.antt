@@ -3,4 +3,3 @@ pub mod Board
 pub mod Steps
 pub mod Turn
 pub mod Demand
-pub mod Worked

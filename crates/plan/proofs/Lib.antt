@@ -20,3 +20,4 @@ pub mod Codes
 pub mod Held
 pub mod ToEnd
 pub mod Through
+pub mod Taken

@@ -1,0 +1,22 @@
+-- A buffer that is filled from its front: the next bytes go behind those that are there.
+use Prim.Native.Nat.{ℕ, _+_, _-_, _≤_}
+use mathlib.Core.Path.{_≡_, sym}
+use mathlib.Core.List.{List}
+use native.Mathlib.Omega.{arith}
+use lib.ListN.{length, take, length-take, length-drop}
+use lib.Seq.{length-take-le}
+use borrow.Rule.Slice.PartMut.{midOf, putMid, same-len-mid}
+
+pub record Filled (at : ℕ) (text start : List ℕ) : Type 0 where
+  pub within : at ≤ length text
+  pub long : length text ≡ length start
+
+pub filled-more : {at : ℕ} {text start : List ℕ} (n : ℕ) (ys : List ℕ) → Filled at text start → length ys ≡ length (midOf at (length text - at) text) → n ≤ length (midOf at (length text - at) text)
+    → Filled (at + n) (putMid at (length text - at) text ys) start
+filled-more {at} {text} {start} n ys f e h =
+    let long : length (putMid at (length text - at) text ys) ≡ length text = same-len-mid at (length text - at) text ys e in
+    let part : length (midOf at (length text - at) text) ≤ length text - at = simp (length-take, length-drop) (omega arith) in
+    record { within = omega (arith, f .within, long, part, h); long = omega (arith, f .long, long) }
+
+pub filled-count : {at : ℕ} {text start : List ℕ} → Filled at text start → (at ≤ length text) × (at ≡ length (take at text))
+filled-count {at} {text} f = (f .within, sym (length-take-le at text (f .within)))

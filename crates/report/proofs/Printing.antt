@@ -1,0 +1,198 @@
+-- A plan that was read, and its report.
+use Prim.Native.Nat.{ℕ, zero, suc, _+_, _-_, _*_, _≤_, _<_}
+use mathlib.Core.Path.{_≡_, refl, sym, ap, _∙_}
+use mathlib.Core.List.{List, [], _∷_, _++_, map, append-assoc}
+use native.Mathlib.Nat.{add-zero}
+use native.Mathlib.Omega.{arith}
+use lib.ListN.{length, getD, take, drop, length-append, length-map, List·getD-append}
+use lib.Seq.{sets, length-sets, length-take-le, take-at, drop-at, getD-drop, drop-drop, take-append-seam}
+use Rattle.method.specs.Demand.{Station}
+use Rattle.plan.specs.Limits.{mostStations, mostStocks, mostTurns, mostCode}
+use Rattle.plan.specs.declared.Fault.{Fault}
+use Rattle.plan.specs.declared.Answer.{Answer}
+use Rattle.plan.specs.declared.Answer.the-variants.{Plan, Refused}
+use Rattle.plan.specs.Refusal.{Told, counts, refusal, numberOf, told}
+use Rattle.plan.specs.Buffers.{zeros, padded, cellsOf, toldOf, setsAfter, codesAfter, lensAfter, turnsAfter}
+use Rattle.plan.specs.Plan.{Held, Reading, plan, refused, reading}
+use Rattle.plan.proofs.Celled.{padded-long}
+use Rattle.report.specs.declared.Printed.{Printed}
+use Rattle.report.specs.Lines.{refusalLine}
+use Rattle.report.specs.Printed.{report, printed, mostPrinted, answerOf, bufferOf}
+use Rattle.report.specs.Put.{Put, Celled, Ready, codesFrom}
+use Rattle.plan.proofs.Taken.{CodesFine, Sound, plan-sound, place-most}
+use Rattle.report.proofs.Running.{all-stations}
+use Rattle.report.proofs.Handing.{put-front}
+use Rattle.report.proofs.Sizes.{printed-most}
+
+-- ---- codes back from their cells
+
+module _ (cells lens : List ℕ) where
+  cells-back : (k : ℕ) (cs : List (List ℕ)) (z y : List ℕ) → ((j : ℕ) → j < length cs → length (getD cs j []) ≤ mostCode)
+      → drop (k * mostCode) cells ≡ cellsOf cs ++ z → drop k lens ≡ map length cs ++ y → codesFrom cells lens k (length cs) ≡ cs
+  unfolding codesFrom cellsOf padded
+  cells-back k [] z y short p q = refl
+  cells-back k (c ∷ cs) z y short p q =
+      let small : length c ≤ mostCode = short 0 (omega arith) in
+      let pad : List ℕ = zeros (mostCode - length c) in
+      let cell : drop (k * mostCode) cells ≡ c ++ (pad ++ (cellsOf cs ++ z)) = p ∙ append-assoc (c ++ pad) (cellsOf cs) z ∙ append-assoc c pad (cellsOf cs ++ z) in
+      let len : getD lens k 0 ≡ length c = ap (λ (n : ℕ). getD lens n 0) (sym (add-zero k)) ∙ sym (getD-drop k lens 0 0) ∙ ap (λ (l : List ℕ). getD l 0 0) q in
+      let code : take (getD lens k 0) (drop (k * mostCode) cells) ≡ c = rw (len, cell) (take-append-seam c (pad ++ (cellsOf cs ++ z))) in
+      let long : length (c ++ pad) ≡ mostCode = padded-long mostCode c small in
+      let next : k * mostCode + mostCode ≡ suc k * mostCode = omega arith in
+      let p′ : drop (suc k * mostCode) cells ≡ cellsOf cs ++ z =
+      ap (λ (n : ℕ). drop n cells) (sym next) ∙ sym (drop-drop mostCode (k * mostCode) cells) ∙ ap (drop mostCode) (p ∙ append-assoc (c ++ pad) (cellsOf cs) z) ∙ drop-at (c ++ pad) (cellsOf cs ++ z) mostCode long in
+      let one : k + 1 ≡ suc k = omega arith in
+      let q′ : drop (suc k) lens ≡ map length cs ++ y = ap (λ (n : ℕ). drop n lens) (sym one) ∙ sym (drop-drop 1 k lens) ∙ ap (drop 1) q in
+      let rest : codesFrom cells lens (suc k) (length cs) ≡ cs = cells-back (suc k) cs z y (λ j l. short (suc j) (omega arith)) p′ q′ in
+      rw (code, rest)
+
+cells-length : (cs : List (List ℕ)) → ((j : ℕ) → j < length cs → length (getD cs j []) ≤ mostCode) → length (cellsOf cs) ≡ length cs * mostCode
+unfolding cellsOf
+cells-length [] h = refl
+cells-length (c ∷ cs) h =
+    let a = length-append (padded mostCode c) (cellsOf cs) in
+    let b = padded-long mostCode c (h 0 (omega arith)) in
+    let ih = cells-length cs (λ j l. h (suc j) (omega arith)) in
+    omega arith
+
+map-at : (cs : List (List ℕ)) (j : ℕ) → getD (map length cs) j 0 ≡ length (getD cs j [])
+map-at [] j = refl
+map-at (c ∷ cs) zero = refl
+map-at (c ∷ cs) (suc j) = map-at cs j
+
+-- ---- what was read
+
+pub record ReadOff (text : List ℕ) (n stocks turned : ℕ) (sets cells lens turns : List ℕ) : Type 0 where
+  pub of : Held
+  pub read : reading text ≡ plan of
+  pub stations : of .stations ≡ n
+  pub many : length (of .stocks .codes) ≡ stocks
+  pub made : length (of .turns) ≡ turned
+  pub sets-are : sets ≡ of .stocks .sets
+  pub cells-are : cells ≡ padded (mostStocks * mostCode) (cellsOf (of .stocks .codes))
+  pub lens-are : lens ≡ padded mostStocks (map length (of .stocks .codes))
+  pub turns-are : turns ≡ padded mostTurns (of .turns)
+
+pub read-off : (text : List ℕ) (r : Answer) (n stocks turned : ℕ) (sets cells lens turns a b c d : List ℕ) → r ≡ Plan n stocks turned → told r ≡ toldOf (reading text)
+    → sets ≡ setsAfter (reading text) a → cells ≡ codesAfter (reading text) b → lens ≡ lensAfter (reading text) c → turns ≡ turnsAfter (reading text) d
+    → ReadOff text n stocks turned sets cells lens turns
+read-off text r n stocks turned sets cells lens turns a b c d e f g h i j = go (reading text) refl (sym (ap told e) ∙ f) g h i j
+  where
+    go : (o : Reading) → reading text ≡ o → counts n stocks turned ≡ toldOf o → sets ≡ setsAfter o a → cells ≡ codesAfter o b → lens ≡ lensAfter o c → turns ≡ turnsAfter o d
+        → ReadOff text n stocks turned sets cells lens turns
+    go (plan h) o f g x y z =
+        record { of = h; read = o; stations = sym (counts-0 f); many = sym (counts-1 f); made = sym (counts-2 f); sets-are = g; cells-are = x; lens-are = y; turns-are = z }
+      where
+        counts-0 : counts n stocks turned ≡ counts (h .stations) (length (h .stocks .codes)) (length (h .turns)) → n ≡ h .stations
+        counts-0 e = cc
+
+        counts-1 : counts n stocks turned ≡ counts (h .stations) (length (h .stocks .codes)) (length (h .turns)) → stocks ≡ length (h .stocks .codes)
+        counts-1 e = cc
+
+        counts-2 : counts n stocks turned ≡ counts (h .stations) (length (h .stocks .codes)) (length (h .turns)) → turned ≡ length (h .turns)
+        counts-2 e = cc
+    go (refused fault place) o f g x y z = absurd (let w : _≡_ {A = ℕ} 0 1 = cc in omega arith)
+
+-- the refusal that was read
+pub refused-off : (text : List ℕ) (r : Answer) (fault : Fault) (place : ℕ) → r ≡ Refused fault place → told r ≡ toldOf (reading text)
+    → (f : Fault) × (reading text ≡ refused f place) × (numberOf fault ≡ numberOf f)
+refused-off text r fault place e t = go (reading text) refl (sym (ap told e) ∙ t)
+  where
+    go : (o : Reading) → reading text ≡ o → refusal (numberOf fault) place ≡ toldOf o → (f : Fault) × (reading text ≡ refused f place) × (numberOf fault ≡ numberOf f)
+    go (plan h) o f = absurd (let w : _≡_ {A = ℕ} 0 1 = cc in omega arith)
+    go (refused f p) o t =
+        let same : place ≡ p = cc in
+        let number : numberOf fault ≡ numberOf f = cc in
+        (f, o ∙ ap (refused f) (sym same), number)
+
+module _ {text : List ℕ} {n stocks turned : ℕ} {sets cells lens turns : List ℕ} (r : ReadOff text n stocks turned sets cells lens turns) where
+  sound : Sound (r .of)
+  sound = plan-sound text (r .of) (r .read)
+
+  cells-of : length (cellsOf (r .of .stocks .codes)) ≤ mostStocks * mostCode
+  cells-of =
+      let l = cells-length (r .of .stocks .codes) (sound .stocks-fine .fine .short) in
+      let m = sound .stocks-fine .fine .most in
+      omega arith
+
+  pub cells-long : length cells ≡ mostStocks * mostCode
+  cells-long = ap length (r .cells-are) ∙ padded-long (mostStocks * mostCode) (cellsOf (r .of .stocks .codes)) cells-of
+
+  lens-of : length (map length (r .of .stocks .codes)) ≤ mostStocks
+  lens-of = let m = sound .stocks-fine .fine .most in let l = length-map (r .of .stocks .codes) length in omega arith
+
+  pub lens-long : length lens ≡ mostStocks
+  lens-long = ap length (r .lens-are) ∙ padded-long mostStocks (map length (r .of .stocks .codes)) lens-of
+
+  pub turns-long : turned ≤ length turns
+  turns-long =
+      let e : length turns ≡ mostTurns = ap length (r .turns-are) ∙ padded-long mostTurns (r .of .turns) (sound .turns-fine .few) in
+      let f = sound .turns-fine .few in
+      let m = r .made in
+      omega arith
+
+  pub prefix-long : turned ≡ length (take turned turns)
+  prefix-long = sym (length-take-le turned turns turns-long)
+
+  turns-back : take turned turns ≡ r .of .turns
+  unfolding padded
+  turns-back = ap (take turned) (r .turns-are) ∙ take-at (r .of .turns) (zeros (mostTurns - length (r .of .turns))) turned (r .made)
+
+  codes-back : codesFrom cells lens 0 stocks ≡ r .of .stocks .codes
+  unfolding padded
+  codes-back =
+      ap (codesFrom cells lens 0) (sym (r .many))
+      ∙ cells-back cells lens 0 (r .of .stocks .codes) (zeros (mostStocks * mostCode - length (cellsOf (r .of .stocks .codes)))) (zeros (mostStocks - length (map length (r .of .stocks .codes)))) (sound .stocks-fine .fine .short) (r .cells-are) (r .lens-are)
+
+  -- the length of each code
+  code-short : (j : ℕ) → j < stocks → getD lens j 0 ≤ mostCode
+  unfolding padded
+  code-short j l =
+      let k : j < length (r .of .stocks .codes) = rw (r .many) l in
+      let m = length-map (r .of .stocks .codes) length in
+      rw (r .lens-are, List·getD-append (map length (r .of .stocks .codes)) (zeros (mostStocks - length (map length (r .of .stocks .codes)))) 0 j (omega arith), map-at (r .of .stocks .codes) j)
+      (sound .stocks-fine .fine .short j k)
+
+  pub ready : (page : List ℕ) → length page ≡ mostPrinted → Ready page n sets stocks cells lens (take turned turns)
+  ready page long =
+      record {
+        page-long = long;
+        high = rw (← r .stations) (sound .high);
+        sets-long = ap length (r .sets-are) ∙ sound .stocks-fine .long;
+        celled = record { most = rw (← r .many) (sound .stocks-fine .fine .most); cells-long = cells-long; lens-long = lens-long; short = code-short };
+        few = rw turns-back (sound .turns-fine .few);
+        named = rw (turns-back, ← r .stations) (all-stations (sound .turns-fine));
+      }
+
+  pub report-is : report n sets (codesFrom cells lens 0 stocks) (take turned turns) ≡ printed text
+  unfolding printed
+  report-is = rw (codes-back, turns-back, r .sets-are, ← r .stations, r .read)
+
+-- ---- what stands in the page is handed out
+
+module _ (text : List ℕ) {page last : List ℕ} {end : ℕ} {line : List ℕ} (put : Put page 0 line last end) (is : line ≡ printed text) (long : length page ≡ mostPrinted) where
+  front : last ≡ line ++ drop (length line) page
+  front = put-front put (let m = printed-most text in let e = ap length is in omega arith)
+
+  end-is : end ≡ length line
+  end-is = let m = put .moved in omega arith
+
+  pub whole-text : take end last ≡ printed text
+  whole-text = ap (take end) front ∙ take-at line (drop (length line) page) end (sym end-is) ∙ is
+
+  pub end-within : end ≤ length last
+  end-within = let m = printed-most text in let e = ap length is in let k = end-is in let l = ap length (put .laid) ∙ length-sets page 0 line in omega arith
+
+  pub end-long : end ≡ length (take end last)
+  end-long = sym (length-take-le end last end-within)
+
+  pub given-out : (out : List ℕ) {last′ : List ℕ} {a : Printed} → (a ≡ answerOf (take end last) (length out)) × (last′ ≡ bufferOf (take end last) out)
+      → (a ≡ answerOf (printed text) (length out)) × (last′ ≡ bufferOf (printed text) out)
+  given-out out e = (rw (← whole-text) (e .0), rw (← whole-text) (e .1))
+
+pub refusal-is : (text : List ℕ) (fault f : Fault) (number place : ℕ) → reading text ≡ refused f place → numberOf fault ≡ numberOf f → number ≡ numberOf fault → refusalLine number place ≡ printed text
+unfolding printed
+refusal-is text fault f number place e g h = rw (e, h, g)
+
+pub place-small : (text : List ℕ) (f : Fault) (place : ℕ) → reading text ≡ refused f place → place < 65536
+place-small text f place e = let m = place-most text f place e in omega arith

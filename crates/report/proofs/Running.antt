@@ -1,0 +1,99 @@
+-- The run of a plan that was taken: every turn is made, and counts and idle turns add up.
+use Prim.Native.Nat.{ℕ, zero, suc, _+_, _-_, _≤_, _<_}
+use mathlib.Core.Path.{_≡_, refl, sym, ap, _∙_}
+use mathlib.Core.Bool.{Bool, true, false}
+use mathlib.Core.List.{List, [], _∷_, _++_}
+use native.Mathlib.Nat.{le-refl}
+use native.Mathlib.Omega.{arith}
+use borrow.Author.Tests.{le-leb}
+use lib.Dec.{leb}
+use lib.ListN.{length, getD, take}
+use Rattle.method.specs.declared.Did.{Did}
+use Rattle.method.specs.declared.Did.the-variants.{Operation, Idle, Unwritten, Nobody}
+use Rattle.method.specs.declared.Run.{Run}
+use Rattle.method.specs.Board.{levels, registers, fresh, freshOn}
+use Rattle.method.specs.Turn.{turn, after}
+use Rattle.method.specs.Demand.{Fits, Station, didOf, idleTurns, countsOf}
+use Rattle.method.proofs.Demand3.{fits-board, counts-add-up, never-unwritten}
+use Rattle.board.specs.declared.playing.Played.{Played}
+use Rattle.board.specs.Playing.{stepped, firstFrom, isUnwritten, stopsAt, playedOf}
+use Rattle.run.specs.Call.{isBad, firstBad, readsUnwritten, firstUnwritten}
+use Rattle.run.proofs.Agree.{stepped-after, stops-first}
+use Rattle.plan.proofs.Taken.{TurnsFine}
+use Rattle.report.specs.Lines.{runLine, stockLine, stationLine, numbered}
+use Rattle.report.specs.Printed.{lines, report}
+use Rattle.report.specs.Put.{Put, countsIn}
+use Rattle.report.proofs.Laying.{put-then, put-same}
+use Rattle.report.proofs.Listed.{counts-rows}
+
+-- where the test holds nowhere, the end is reached
+first-none : (f : ℕ → Bool) (t left : ℕ) → ((u : ℕ) → t ≤ u → u < t + left → f u ≡ false) → firstFrom f t left ≡ t + left
+unfolding firstFrom
+first-none f t zero h = omega arith
+first-none f t (suc left) h =
+    let ih : firstFrom f (suc t) left ≡ suc t + left = first-none f (suc t) left (λ u a b. h u (omega arith) (omega arith)) in
+    let e : firstFrom f t (suc left) ≡ firstFrom f (suc t) left = rw (h t (omega arith) (omega arith), firstFrom) in
+    omega arith
+
+not-unwritten : (d : Did) → (d ≡ Unwritten → ⊥) → isUnwritten d ≡ false
+not-unwritten Operation h = refl
+not-unwritten Idle h = refl
+not-unwritten Unwritten h = absurd (h refl)
+not-unwritten Nobody h = refl
+
+not-bad : (n : ℕ) (turns : List ℕ) (t : ℕ) → Station n (getD turns t 0) → isBad n turns t ≡ false
+not-bad n turns t st = rw (le-leb 1 (getD turns t 0) (st .low), le-leb (getD turns t 0) n (st .high))
+
+-- every turn of a plan that was taken names a station
+pub all-stations : {n : ℕ} {turns : List ℕ} → TurnsFine n turns → (t : ℕ) → t < length turns → Station n (getD turns t 0)
+all-stations p t l = record { low = p .named t l .low; high = p .named t l .high }
+
+module _ (n : ℕ) (sets turns : List ℕ) (high : n ≤ 16) (sixteen : length sets ≡ 16) (few : length turns ≤ 4096) (named : (t : ℕ) → t < length turns → Station n (getD turns t 0)) where
+  fits : Fits levels registers n sets
+  fits = fits-board n sets high (omega arith)
+
+  past : length turns ≤ firstBad n turns
+  unfolding firstBad
+  past =
+      let e : firstFrom (isBad n turns) 0 (length turns) ≡ 0 + length turns = first-none (isBad n turns) 0 (length turns) (λ u a b. not-bad n turns u (named u (omega arith))) in
+      omega arith
+
+  -- no turn reads a line never written, so every turn is made
+  all-made : stopsAt (fresh n sets) turns ≡ length turns
+  unfolding firstUnwritten fresh didOf
+  all-made =
+      let e : firstFrom (readsUnwritten (fresh n sets) turns) 0 (length turns) ≡ 0 + length turns =
+      first-none (readsUnwritten (fresh n sets) turns) 0 (length turns) (λ u a b. not-unwritten (turn (after (fresh n sets) turns u) (getD turns u 0) .did) (never-unwritten fits turns u)) in
+      let z : 0 + length turns ≡ length turns = omega arith in
+      stops-first n sets turns high sixteen few past ∙ e ∙ z
+
+  pub ran : (start : Run) (played : Played) → start ≡ fresh n sets → played ≡ playedOf start turns → played .run ≡ after (fresh n sets) turns (length turns)
+  ran start played s p =
+      ap (λ (x : Played). x .run) p ∙ ap (λ (r : Run). stepped r turns (stopsAt r turns)) s ∙ ap (stepped (fresh n sets) turns) all-made
+      ∙ stepped-after n sets turns high sixteen few past (length turns) (le-refl (length turns))
+
+  pub counts-and-idle : (start : Run) (played : Played) (counts : ℕ) → start ≡ fresh n sets → played ≡ playedOf start turns → counts ≡ countsIn (played .run .rows) n
+      → counts + idleTurns (fresh n sets) turns (length turns) ≡ length turns
+  unfolding fresh
+  counts-and-idle start played counts s p q =
+      let made : played .run ≡ after (fresh n sets) turns (length turns) = ran start played s p in
+      let sum : counts ≡ countsOf (after (fresh n sets) turns (length turns)) n = q ∙ counts-rows (played .run) n ∙ ap (λ (r : Run). countsOf r n) made in
+      let all : countsOf (after (fresh n sets) turns (length turns)) n + idleTurns (fresh n sets) turns (length turns) ≡ length turns = counts-add-up fits turns (length turns) named in
+      rw sum all
+
+  pub idle-is : (start : Run) (played : Played) (counts : ℕ) → start ≡ fresh n sets → played ≡ playedOf start turns → counts ≡ countsIn (played .run .rows) n
+      → length turns - counts ≡ idleTurns (fresh n sets) turns (length turns)
+  idle-is start played counts s p q = let e = counts-and-idle start played counts s p q in omega arith
+
+  -- the three parts of the report
+  pub report-put : (page a b last : List ℕ) (p q r counts : ℕ) (codes : List (List ℕ)) (start : Run) (played : Played) → start ≡ fresh n sets → played ≡ playedOf start turns → counts ≡ countsIn (played .run .rows) n
+      → Put page 0 (runLine n (length turns) (length turns - counts)) a p → Put a p (numbered stockLine 0 codes) b q → Put b q (numbered stationLine 1 (take n (played .run .rows))) last r
+      → Put page 0 (report n sets codes turns) last r
+  unfolding report lines
+  report-put page a b last p q r counts codes start played s e c f g h =
+      let idle : length turns - counts ≡ idleTurns (fresh n sets) turns (length turns) = idle-is start played counts s e c in
+      let made : played .run ≡ after (fresh n sets) turns (length turns) = ran start played s e in
+      put-same
+      (ap (λ (i : ℕ). runLine n (length turns) i ++ numbered stockLine 0 codes ++ numbered stationLine 1 (take n (played .run .rows))) idle
+      ∙ ap (λ (x : Run). runLine n (length turns) (idleTurns (fresh n sets) turns (length turns)) ++ numbered stockLine 0 codes ++ numbered stationLine 1 (take n (x .rows))) made)
+      (put-then (put-then f g) h)

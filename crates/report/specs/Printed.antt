@@ -1,0 +1,46 @@
+-- From a plan's text to the printed text: one definition.
+use Prim.Native.Nat.{ℕ, _+_, _*_}
+use mathlib.Core.Bool.{Bool, true, false, cond}
+use mathlib.Core.List.{List, _++_}
+use lib.Dec.{leb}
+use lib.ListN.{length, take, drop}
+use Rattle.method.specs.declared.Run.{Run}
+use Rattle.method.specs.Board.{fresh}
+use Rattle.method.specs.Turn.{after}
+use Rattle.method.specs.Demand.{idleTurns}
+use Rattle.plan.specs.Limits.{mostStations, mostStocks}
+use Rattle.plan.specs.Refusal.{numberOf}
+use Rattle.plan.specs.Plan.{Reading, plan, refused, reading}
+use Rattle.report.specs.declared.Printed.{Printed}
+use Rattle.report.specs.declared.Printed.the-variants.{Whole, TooSmall}
+use Rattle.report.specs.Lines.{refusalLine, runLine, stockLine, stationLine, mostRun, mostStock, mostStation, numbered}
+
+-- "`RUN`, n, turns, idle turns; then a `STOCK` line for each stock (number, code); then for each station `ST` .."
+unfoldable pub lines : ℕ → List (List ℕ) → ℕ → ℕ → Run → List ℕ
+lines n codes turns idle run =
+    runLine n turns idle ++ numbered stockLine 0 codes ++ numbered stationLine 1 (take n (run .rows))
+
+-- the report of n stations with these input sets, the stocks' codes and the turns
+unfoldable pub report : ℕ → List ℕ → List (List ℕ) → List ℕ → List ℕ
+report n sets codes turns =
+    lines n codes (length turns) (idleTurns (fresh n sets) turns (length turns)) (after (fresh n sets) turns (length turns))
+
+-- "Refused: one line, `NO`, number, place. Otherwise .."
+abbrev pub reportOf : Reading → List ℕ
+reportOf (plan h) = report (h .stations) (h .stocks .sets) (h .stocks .codes) (h .turns)
+reportOf (refused fault place) = refusalLine (numberOf fault) place
+
+unfoldable pub printed : List ℕ → List ℕ
+printed text = reportOf (reading text)
+
+-- no report is longer: the `RUN` line, 64 `STOCK` lines and 16 `ST` lines
+abbrev pub mostPrinted : ℕ
+mostPrinted = mostRun + mostStocks * mostStock + mostStations * mostStation
+
+-- how a text is handed out in a lent buffer: its length, or that the buffer is too small
+unfoldable pub answerOf : List ℕ → ℕ → Printed
+answerOf text room = cond (leb (length text) room) (Whole (length text)) TooSmall
+
+-- "bytes past the text stay as they were"; a buffer that is too small "is left untouched"
+unfoldable pub bufferOf : List ℕ → List ℕ → List ℕ
+bufferOf text was = cond (leb (length text) (length was)) (text ++ drop (length text) was) was

@@ -1,0 +1,75 @@
+// From a plan's text to the printed text.
+ghost use mathlib.Core.Path.{_≡_};
+ghost use lib.ListN.{length};
+ghost use Rattle.report.specs.Printed.{report, printed, answerOf, bufferOf};
+ghost use Rattle.report.specs.Put.{Put, Ready, codesFrom};
+use super::Printed;
+use super::fields::put_bytes;
+use super::lines::put_refusal;
+use super::lines::put_run;
+use super::listing::counted;
+use super::listing::put_stations;
+use super::listing::put_stocks;
+use plan::Answer;
+
+// The report of a plan that was read: it is run, and the lines are put into the page.
+fn put_report(
+    page: &mut [u8],
+    n: u8,
+    sets: [u64; 16],
+    stocks: usize,
+    cells: &[u8],
+    lens: &[usize],
+    turns: &[u8],
+) -> usize
+    requires { ⌜ Ready (now page) n sets stocks (now cells) (now lens) (now turns) ⌝ }
+    ensures { λ r. ⌜ Put (now (page .entry)) 0 (report n sets (codesFrom (now (cells .entry)) (now (lens .entry)) 0 stocks) (now (turns .entry))) (now (page .exit)) r ⌝ }
+{
+    let stations = n as usize;
+    let played = board::playing::play_out(board::start::fresh(n, sets), turns);
+    let run = played.run;
+    let rows = run.rows;
+    let idle = turns.len() - counted(stations, rows);
+    let a = put_run(page, n as u16, turns.len() as u16, idle as u16);
+    let b = put_stocks(page, a, stocks, cells, lens);
+    put_stations(page, b, stations, rows)
+}
+
+// A text is handed out whole, or not at all.
+fn hand_out(text: &[u8], out: &mut [u8]) -> Printed
+    ensures { λ r. ⌜ r ≡ answerOf (now (text .entry)) (length (now (out .entry))) ⌝ }
+    ensures { λ r. ⌜ now (out .exit) ≡ bufferOf (now (text .entry)) (now (out .entry)) ⌝ }
+{
+    if out.len() < text.len() {
+        return Printed::TooSmall;
+    }
+    put_bytes(out, 0, text);
+    Printed::Whole(text.len())
+}
+
+// Reads a plan, runs it and prints its report into `out`: the text and its length. A buffer that is too small is left untouched.
+pub fn print_plan(text: &[u8], out: &mut [u8]) -> Printed
+    ensures { λ r. ⌜ r ≡ answerOf (printed (now (text .entry))) (length (now (out .entry))) ⌝ }
+    ensures { λ r. ⌜ now (out .exit) ≡ bufferOf (printed (now (text .entry))) (now (out .entry)) ⌝ }
+{
+    let mut sets = [0u64; 16];
+    let mut cells = [0u8; 768];
+    let mut lens = [0usize; 64];
+    let mut turns = [0u8; 4096];
+    let mut page = [0u8; 2310];
+    let answer = plan::read_plan(text, &mut sets, &mut cells, &mut lens, &mut turns);
+    match answer {
+        Answer::Plan {
+            stations: n,
+            stocks: s,
+            turns: t,
+        } => {
+            let end = put_report(&mut page, n, sets, s, &cells, &lens, &turns[..t]);
+            hand_out(&page[..end], out)
+        }
+        Answer::Refused { fault, place } => {
+            let end = put_refusal(&mut page, plan::number_of(fault) as u16, place as u16);
+            hand_out(&page[..end], out)
+        }
+    }
+}
