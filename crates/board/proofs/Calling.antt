@@ -4,7 +4,7 @@
 --                   with what the contract says of the result
 --     last-said     of what is said at the end of a call that was lent a record: what the record is then
 --     tests         the test of a `while`, before its outcome is known
---     may-return    a branch whose first arm leaves the function
+--     may-leave     a branch whose first arm may leave the function: it is given the step from where it doesn't, to what follows
 -- Assumes `Given`, and that the table of calls is monotone under a frame.
 use mathlib.Core.Path.{_≡_, sym, ap, subst}
 use Prim.Native.Nat.{ℕ}
@@ -20,7 +20,7 @@ use prog.Wp.{Heap, Env, Calls, Loops, Wp, afterSeq, exits}
 use ghost.Atoms.{Atoms, sem}
 use sound.WpLaws.{FmC}
 use contract.Monad.{fact, fact-use}
-use types.Kit.{Given, Item, ‵, raw, _⊛_, some, later, mean, Post, post, anyQ, prop, runs, lands, Seq, _$_, use0, use1, drop, split, pick, await}
+use types.Kit.{Given, Item, ‵, raw, _⊛_, some, later, mean, Post, post, anyQ, prop, runs, lands, Seq, Step, step, _$_, use0, use1, drop, split, pick, await}
 use types.Run.{Opd, Opds, first, branches, skips, jumps}
 use denote.RattleType.{RattleType}
 use denote.Laws.{Is, Tells, shows}
@@ -64,6 +64,8 @@ module _ {M : Type 1} {𝓤 : URA M} {H : Heap 𝓤} {A : Atoms 𝓤} {K : Type 
       → Seq K W Γ (runs C Λ E (seq (cond c skip (exit n)) b) q)
   tests t o held failed = first t $ branches t o (λ z. skips t $ record { prf = held z .prf }) (λ z. jumps t $ record { prf = failed z .prf })
 
-  pub may-return : K → {c : Operand} {a b : Body} {y : Bool} → Opd K W Γ E c (vbool y) → (Holds y → Seq K W Γ (runs C Λ E a (anyQ (afterSeq 𝓤 H (Wp 𝓤 H C Λ E b (post 𝓤 H q)) (post 𝓤 H q))))) → (Holds (not y) → Seq K W Γ (runs C Λ E b q))
+  pub may-leave : K → {c : Operand} {a b : Body} {y : Bool} → Opd K W Γ E c (vbool y)
+      → (Holds y → ((Γ′ : List (Item 𝓤)) → Step K W Γ′ (runs C Λ E b q) Γ′ (runs C Λ E skip (anyQ (afterSeq 𝓤 H (Wp 𝓤 H C Λ E b (post 𝓤 H q)) (post 𝓤 H q)))))
+      → Seq K W Γ (runs C Λ E a (anyQ (afterSeq 𝓤 H (Wp 𝓤 H C Λ E b (post 𝓤 H q)) (post 𝓤 H q))))) → (Holds (not y) → Seq K W Γ (runs C Λ E b q))
       → Seq K W Γ (runs C Λ E (seq (cond c a skip) b) q)
-  may-return t o held failed = first t $ branches t o held (λ z. skips t $ record { prf = failed z .prf })
+  may-leave t o held failed = first t $ branches t o (λ z. held z (λ Γ′. step (λ s. skips t $ record { prf = s .prf }))) (λ z. skips t $ record { prf = failed z .prf })

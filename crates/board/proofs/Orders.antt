@@ -1,22 +1,26 @@
 -- A look through an order of turns for the first at which a test holds, and the record on the way.
 use Prim.Native.Nat.{ℕ, suc, _+_, _-_, _≤_, _<_}
 use mathlib.Core.Path.{_≡_, refl, sym, ap, subst, _∙_}
-use mathlib.Core.Bool.{Bool, true, false, cond}
+use mathlib.Core.Bool.{Bool, true, false, cond, _&&_, and-false}
 use mathlib.Core.List.{List}
 use native.Mathlib.Numerals.{add-one}
 use native.Mathlib.Omega.{arith}
-use lib.Dec.{T as Holds, ltb}
+use lib.Dec.{T as Holds, leb, ltb}
 use lib.ListN.{length, getD}
 use Rattle.method.specs.declared.Line.{Line}
+use Rattle.method.specs.declared.State.{State}
+use Rattle.method.specs.declared.State.the-variants.{NotBegun, Uniting, Gathering, Settled}
 use Rattle.method.specs.declared.Op.{Op}
 use Rattle.method.specs.declared.Op.the-variants.{Post, Write, Read, ReadLine, Rest}
 use Rattle.method.specs.declared.Did.the-variants.{Nobody}
 use Rattle.method.specs.declared.Run.{Run}
 use Rattle.method.specs.declared.Turned.{Turned}
-use Rattle.method.specs.Board.{rowOf, lineOf}
+use Rattle.method.specs.Board.{notBegun, rowOf, lineOf}
 use Rattle.method.specs.Steps.{nextOp}
 use Rattle.method.specs.Turn.{turned, readLine, perform, named, turn}
+use Rattle.method.specs.Demand.{isSettled}
 use Rattle.board.specs.Step.{countEnd, stepOf}
+use Rattle.board.specs.Places.{seatAt}
 use Rattle.board.specs.Playing.{stepped, firstFrom, isUnwritten, unwrittenStep, stopsAt, playedOf}
 
 module _ (test : ℕ → Bool) where
@@ -52,6 +56,11 @@ module _ (test : ℕ → Bool) where
   unfolding firstFrom
   passed-all {m} {t} p h = let e : m - t ≡ 0 = omega arith in p .rest ∙ rw e
 
+-- a turn that leaves the record as it is, and would read no line never written
+pub record Still (now : Run) (x : Turned) : Type 0 where
+  pub stays : x .run ≡ now
+  pub reads : isUnwritten (x .did) ≡ false
+
 module _ (run : Run) (turns : List ℕ) where
   -- the record after t turns, none of which was stopped
   pub record Steps (now : Run) (t : ℕ) : Type 0 where
@@ -85,6 +94,9 @@ module _ (run : Run) (turns : List ℕ) where
       let end : firstFrom (unwrittenStep run turns) 0 (length turns) ≡ t = passed-all (unwrittenStep run turns) (s .passed) h in
       rw (end, s .state)
 
+  pub steps-still : (now : Run) (t : ℕ) → Steps now t → t < length turns → Still now (stepOf now (getD turns t 0)) → Steps now (t + 1)
+  steps-still now t s h w = subst (λ (r : Run). Steps r (t + 1)) (w .stays) (steps-more now t (stepOf now (getD turns t 0)) (isUnwritten (stepOf now (getD turns t 0) .did)) s h refl refl (w .reads))
+
 -- a turn that would read a line never written leaves the record as it is
 module _ (run : Run) (i : ℕ) where
   unwritten-read : (l : Line) (w : Bool) → isUnwritten (readLine run i l w .did) ≡ true → readLine run i l w .run ≡ run
@@ -108,3 +120,34 @@ module _ (run : Run) (i : ℕ) where
       at true true e = unwritten-op (nextOp i (rowOf run i .state)) e
       at true false e = refl
       at false y e = refl
+
+-- A turn of a settled station is still. So is a turn of a number that has no row, which is seated at the first one.
+module _ (run : Run) (rows : length (run .rows) ≡ 16) (i : ℕ) where
+  settled-op : (s : State) → isSettled s ≡ true → nextOp i s ≡ Rest
+  unfolding nextOp
+  settled-op (NotBegun stocks) e = absurd (subst (λ (z : Bool). Holds z) (sym e) tt)
+  settled-op (Uniting k own other side round) e = absurd (subst (λ (z : Bool). Holds z) (sym e) tt)
+  settled-op (Gathering S j got) e = absurd (subst (λ (z : Bool). Holds z) (sym e) tt)
+  settled-op (Settled S got) e = refl
+
+  still : (x : Bool) → Still run (cond x (turned run Nobody) (turned run Nobody))
+  still true = record { stays = refl; reads = refl }
+  still false = record { stays = refl; reads = refl }
+
+  idle : (x y : Bool) → Still run (cond x (cond y (perform run i Rest) (turned run Nobody)) (turned run Nobody))
+  unfolding perform
+  idle true true = record { stays = refl; reads = refl }
+  idle true false = record { stays = refl; reads = refl }
+  idle false y = record { stays = refl; reads = refl }
+
+  pub settled-still : isSettled (getD (run .rows) (seatAt i) (notBegun 0) .state) ≡ true → Still run (stepOf run i)
+  unfolding stepOf turn named rowOf
+  settled-still e = at (leb i 16) refl
+    where
+      at : (x : Bool) → leb i 16 ≡ x → Still run (stepOf run i)
+      at true f =
+          let settled : isSettled (rowOf run i .state) ≡ true = sym (rw f) ∙ e in
+          subst (λ (op : Op). Still run (cond (ltb (rowOf run i .count) countEnd) (cond (named run i) (perform run i op) (turned run Nobody)) (turned run Nobody))) (sym (settled-op (rowOf run i .state) settled)) (idle (ltb (rowOf run i .count) countEnd) (named run i))
+      at false f =
+          let nobody : named run i ≡ false = rw (rows, f) (and-false (leb 1 i && leb i (run .stations))) in
+          subst (λ (y : Bool). Still run (cond (ltb (rowOf run i .count) countEnd) (cond y (perform run i (nextOp i (rowOf run i .state))) (turned run Nobody)) (turned run Nobody))) (sym nobody) (still (ltb (rowOf run i .count) countEnd))

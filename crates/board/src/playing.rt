@@ -1,6 +1,7 @@
 // An order of turns on the run record.
 ghost use mathlib.Core.Path.{_≡_};
 ghost use Rattle.board.specs.Playing.{isUnwritten, stepped, stopsAt, playedOf};
+use super::places;
 use super::turning;
 use method::Did;
 use method::Run;
@@ -29,8 +30,14 @@ pub fn play(run: &mut Run, turns: &[u8]) -> usize
 {
     let mut t = 0;
     while t < turns.len() {
-        if is_unwritten(turning::step(run, turns[t])) {
-            return t;
+        let i = turns[t];
+        // The turn of a settled station is idle, and most turns of a long order are: its row alone tells, and nothing is written back.
+        let at = places::seat_of(i);
+        let row = run.rows[at];
+        if !turning::is_settled(row) {
+            if is_unwritten(turning::step(run, i)) {
+                return t;
+            }
         }
         t += 1;
     }

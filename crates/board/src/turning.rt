@@ -1,6 +1,7 @@
 // One turn on the run record, which its owner lends.
 ghost use mathlib.Core.Path.{_≡_};
 ghost use mathlib.Core.Bool.{cond, _&&_};
+ghost use Rattle.method.specs.Demand.{isSettled};
 ghost use Rattle.board.specs.Step.{Seated, stepOf};
 ghost use Rattle.method.specs.declared.Did.the-variants.{Nobody};
 ghost use Rattle.board.specs.Places.{didOf, broughtOf, lineLeft, setLeft, isOperation, leaves, onward, made, madeOf};
@@ -11,6 +12,30 @@ use method::Line;
 use method::Op;
 use method::Row;
 use method::Run;
+use method::State;
+
+// Whether the row's station has settled.
+pub fn is_settled(row: Row) -> bool
+    ensures { λ r. ⌜ r ≡ isSettled (row .state) ⌝ }
+{
+    let state = row.state;
+    match state {
+        State::NotBegun { stocks: _ } => false,
+        State::Uniting {
+            level: _,
+            own: _,
+            other: _,
+            side: _,
+            round: _,
+        } => false,
+        State::Gathering {
+            set: _,
+            station: _,
+            stocks: _,
+        } => false,
+        State::Settled { set: _, stocks: _ } => true,
+    }
+}
 
 // What a turn leaves in the station's row, and in the line and the register of its operation's place.
 pub struct Made {
