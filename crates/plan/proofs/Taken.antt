@@ -1,24 +1,24 @@
 -- What a plan that was taken holds to: document 01's limits, and every turn names a station. And how far down a refusal can stand.
 use Prim.Native.Nat.{ℕ, zero, suc, _+_, _-_, _≤_, _<_}
-use mathlib.Core.Path.{_≡_, refl, sym, ap, _∙_, subst}
-use mathlib.Core.Bool.{Bool, true, false, cond, false≢true}
+use mathlib.Core.Path.{_≡_, refl, sym, _∙_, subst}
+use mathlib.Core.Bool.{Bool, true, false, cond}
 use mathlib.Core.List.{List, [], _∷_, _++_}
 use mathlib.Core.Logic.{⊎-elim}
-use native.Mathlib.Nat.{eq-or-lt-of-le, le-trans, le-refl}
+use native.Mathlib.Nat.{eq-or-lt-of-le, le-refl}
 use native.Mathlib.Omega.{arith}
 use borrow.Author.Tests.{ltb-true, leb-true, ltb-false}
 use lib.Dec.{leb, ltb, eqb}
-use lib.ListN.{length, getD, set, length-append, length-set, length-replicate, List·getD-append, List·getD-eq-default}
+use lib.ListN.{length, getD, set, length-append, length-set, List·getD-append}
 use lib.Seq.{getD-at}
 use Rattle.plan.specs.Limits.{mostBytes, mostStations, mostStocks, mostTurns, mostCode}
-use Rattle.plan.specs.Text.{LF, space, parted, onto, joined, linesOf, fieldsOf, all, fine, same}
+use Rattle.plan.specs.Text.{LF, space, parted, joined, linesOf, fieldsOf, all, fine, same}
 use Rattle.plan.specs.Number.{empty, numberTo}
 use Rattle.plan.specs.Code.{codeOf, before, stockOf}
 use Rattle.plan.specs.declared.Word.{Word}
 use Rattle.plan.specs.declared.Word.the-variants.{Has, Turn, Other}
 use Rattle.plan.specs.declared.Fault.{Fault}
-use Rattle.plan.specs.declared.Fault.the-variants.{LongText, NoGang, StrayByte, NoCode, MoreStocks, MoreTurns}
-use Rattle.plan.specs.Plan.{Out, taken, no, then, each, stationIn, station, takeTurn, Holding, holding, withStock, stockAt, addStock, takeCode, Stocked, stocked, hasLine, turnLine, Held, held, GANG, wordOf, wordLine, laterFields, laterLine, gangOf, gangIn, firstLine, Reading, plan, refused, atLine, laterLines, allLines, sized, reading}
+use Rattle.plan.specs.declared.Fault.the-variants.{StrayByte, NoCode, MoreStocks, MoreTurns}
+use Rattle.plan.specs.Plan.{Out, taken, no, then, each, stationIn, station, takeTurn, Holding, holding, withStock, addStock, takeCode, Stocked, stocked, hasLine, turnLine, Held, held, GANG, wordOf, wordLine, laterFields, laterLine, gangOf, gangIn, firstLine, Reading, plan, refused, atLine, laterLines, allLines, sized, reading}
 use Rattle.plan.specs.Plan as Plan
 use Rattle.plan.proofs.Numbers.{number-most}
 use Rattle.plan.proofs.Pieces.{run-most}

@@ -1,10 +1,10 @@
 -- The fields of a line, each with the byte behind it.
-use Prim.Native.Nat.{ℕ, suc, _+_, _≤_, _<_}
-use mathlib.Core.Path.{_≡_, refl, sym, ap, _∙_}
+use Prim.Native.Nat.{ℕ, _+_, _≤_, _<_}
+use mathlib.Core.Path.{_≡_}
 use mathlib.Core.Bool.{Bool, true, false}
 use mathlib.Core.List.{List, [], _∷_, _++_}
 use native.Mathlib.Omega.{arith}
-use lib.ListN.{length, length-append}
+use lib.ListN.{length}
 use Rattle.report.specs.Digits.{digits, width, decimal}
 use Rattle.report.specs.Lines.{setShown, dash}
 use Rattle.report.specs.Put.{Put, DigitRoom}

@@ -1,13 +1,13 @@
 -- A text handed out in a buffer, whole or not at all.
 use Prim.Native.Nat.{ℕ, _+_, _≤_, _<_}
-use mathlib.Core.Path.{_≡_, refl, sym, ap, _∙_}
+use mathlib.Core.Path.{_≡_, refl, sym, _∙_}
 use mathlib.Core.List.{List, _++_}
 use native.Mathlib.Omega.{arith}
 use mathlib.Core.Bool.{Bool, true, false, cond}
 use borrow.Author.Tests.{le-leb, lt-leb, leb-true}
 use lib.Dec.{leb}
 use lib.ListN.{length, drop, take}
-use lib.Seq.{sets, sets-eq, length-take-le}
+use lib.Seq.{sets-eq, length-take-le}
 use Rattle.report.specs.declared.Printed.{Printed}
 use Rattle.report.specs.declared.Printed.the-variants.{Whole, TooSmall}
 use Rattle.report.specs.Printed.{answerOf, bufferOf}

@@ -1,18 +1,17 @@
 -- A line for each stock and each station.
 use Prim.Native.Nat.{ℕ, zero, suc, _+_, _-_, _*_, _≤_, _<_}
-use mathlib.Core.Path.{_≡_, refl, sym, ap, _∙_}
+use mathlib.Core.Path.{_≡_, refl, ap, _∙_}
 use mathlib.Core.List.{List, [], _∷_, _++_}
 use native.Mathlib.Omega.{arith}
 use native.Mathlib.Numerals.{add-one}
-use lib.ListN.{length, getD, take, drop, length-take, length-drop, drop-of-length-le}
+use lib.ListN.{length, getD, take, drop, length-take, drop-of-length-le}
 use lib.Seq.{drop-cons, getD-take}
 use Rattle.method.specs.declared.Row.{Row}
 use Rattle.method.specs.declared.Run.{Run}
 use Rattle.method.specs.Board.{notBegun, rowOf}
 use Rattle.method.specs.Demand.{countsOf}
-use Rattle.plan.specs.Limits.{mostCode}
 use Rattle.report.specs.Lines.{numbered, stockLine, stationLine}
-use Rattle.report.specs.Put.{Put, codesFrom, countsIn}
+use Rattle.report.specs.Put.{codesFrom, countsIn}
 
 -- ---- counts
 

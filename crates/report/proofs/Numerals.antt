@@ -1,5 +1,5 @@
 -- Digits, from the last to the first, and how many there are.
-use Prim.Native.Nat.{ℕ, zero, suc, _+_, _-_, _*_, _/_, _%_, _^_, _≤_, _<_}
+use Prim.Native.Nat.{ℕ, zero, suc, _+_, _-_, _/_, _%_, _≤_, _<_}
 use mathlib.Core.Path.{_≡_, refl, sym, ap, _∙_}
 use mathlib.Core.Bool.{Bool, true, false}
 use mathlib.Core.List.{List, [], _∷_, _++_, append-assoc, append-nil}
@@ -7,8 +7,8 @@ use native.Mathlib.Nat.{add-zero}
 use native.Mathlib.Omega.{arith}
 use borrow.Author.Tests.{lt-ltb, le-ltb, ltb-true, ltb-false}
 use lib.Dec.{ltb}
-use lib.ListN.{length, getD, set, length-append, length-set}
-use lib.Seq.{sets, length-sets}
+use lib.ListN.{length, set, length-append, length-set}
+use lib.Seq.{sets}
 use Rattle.report.specs.Digits.{digit, digits, widthIn, width}
 use Rattle.report.specs.Put.{Put}
 use Rattle.report.proofs.Laying.{sets-front}

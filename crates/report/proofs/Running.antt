@@ -1,17 +1,16 @@
 -- The run of a plan that was taken: every turn is made, and counts and idle turns add up.
 use Prim.Native.Nat.{ℕ, zero, suc, _+_, _-_, _≤_, _<_}
-use mathlib.Core.Path.{_≡_, refl, sym, ap, _∙_}
-use mathlib.Core.Bool.{Bool, true, false}
-use mathlib.Core.List.{List, [], _∷_, _++_}
+use mathlib.Core.Path.{_≡_, refl, ap, _∙_}
+use mathlib.Core.Bool.{Bool, false}
+use mathlib.Core.List.{List, [], _++_}
 use native.Mathlib.Nat.{le-refl}
 use native.Mathlib.Omega.{arith}
 use borrow.Author.Tests.{le-leb}
-use lib.Dec.{leb}
 use lib.ListN.{length, getD, take}
 use Rattle.method.specs.declared.Did.{Did}
 use Rattle.method.specs.declared.Did.the-variants.{Operation, Idle, Unwritten, Nobody}
 use Rattle.method.specs.declared.Run.{Run}
-use Rattle.method.specs.Board.{levels, registers, fresh, freshOn}
+use Rattle.method.specs.Board.{levels, registers, fresh}
 use Rattle.method.specs.Turn.{turn, after}
 use Rattle.method.specs.Demand.{Fits, Station, didOf, idleTurns, countsOf}
 use Rattle.method.proofs.Demand3.{fits-board, counts-add-up, never-unwritten}

@@ -1,6 +1,6 @@
 -- How long a report can be.
-use Prim.Native.Nat.{ℕ, zero, suc, _+_, _-_, _*_, _≤_, _<_}
-use mathlib.Core.Path.{_≡_, refl, sym, ap, _∙_}
+use Prim.Native.Nat.{ℕ, suc, _+_, _-_, _*_, _≤_, _<_}
+use mathlib.Core.Path.{_≡_, refl}
 use mathlib.Core.Bool.{Bool, true, false}
 use mathlib.Core.List.{List, [], _∷_, _++_}
 use native.Mathlib.Nat.{add-zero, suc-mul, le-trans}
@@ -12,20 +12,20 @@ use Rattle.method.specs.declared.State.{State}
 use Rattle.method.specs.declared.State.the-variants.{NotBegun, Uniting, Gathering, Settled}
 use Rattle.method.specs.declared.Row.{Row}
 use Rattle.method.specs.declared.Run.{Run}
-use Rattle.method.specs.Board.{levels, registers, fresh, freshOn, notBegun, rowOf}
+use Rattle.method.specs.Board.{levels, registers, fresh, notBegun, rowOf}
 use Rattle.method.specs.Turn.{after}
-use Rattle.method.specs.Demand.{Fits, Station, isSettled, idleTurns, countsOf}
+use Rattle.method.specs.Demand.{Fits, isSettled, idleTurns}
 use Rattle.method.proofs.Demand3.{fits-board, counts-add-up, count-within}
 use Rattle.report.proofs.Running.{all-stations}
 use Rattle.run.specs.Answer.{stateNumber, stationsShown, stocksShown}
-use Rattle.plan.specs.Limits.{mostBytes, mostStations, mostStocks, mostTurns, mostCode}
+use Rattle.plan.specs.Limits.{mostCode}
 use Rattle.plan.specs.Text.{LF, tab}
 use Rattle.plan.specs.declared.Fault.{Fault}
 use Rattle.plan.specs.declared.Fault.the-variants.{LongText, NoGang, StrayByte, OtherWord, FewFields, NoStation, NoCode, MoreStocks, MoreTurns}
 use Rattle.plan.specs.Refusal.{numberOf}
 use Rattle.plan.specs.Plan.{Held, Reading, plan, refused, reading}
-use Rattle.report.specs.Digits.{decimal, width, hex}
-use Rattle.report.specs.Lines.{RUN, STOCK, ST, NO, dash, line, refusalLine, runLine, stockLine, setShown, stationLine, mostRun, mostStock, mostStation, numbered}
+use Rattle.report.specs.Digits.{decimal, width}
+use Rattle.report.specs.Lines.{RUN, STOCK, ST, NO, line, refusalLine, runLine, stockLine, setShown, stationLine, mostRun, mostStock, mostStation, numbered}
 use Rattle.report.specs.declared.Printed.the-variants.{Whole}
 use Rattle.report.specs.Printed.{lines, report, reportOf, printed, mostPrinted, answerOf}
 use Rattle.report.proofs.Numerals.{digits-length, width-five}

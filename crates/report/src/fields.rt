@@ -1,5 +1,4 @@
 // The fields of a line, each with the byte behind it: a tab, or the LF at the line's end.
-ghost use mathlib.Core.Path.{_≡_};
 ghost use mathlib.Core.List.{[], _∷_, _++_};
 ghost use Prim.Native.Nat.{_+_, _≤_};
 ghost use lib.ListN.{length};

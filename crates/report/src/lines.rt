@@ -1,5 +1,4 @@
 // The lines of a report, each put into the page as a whole.
-ghost use mathlib.Core.Path.{_≡_};
 ghost use Prim.Native.Nat.{_+_, _≤_};
 ghost use lib.ListN.{length};
 ghost use Rattle.plan.specs.Limits.{mostCode};

@@ -1,5 +1,5 @@
 use Prim.Native.Nat.{_-_, _*_, _≤_}
-use mathlib.Core.Path.{_≡_, refl, _∙_, ap}
+use mathlib.Core.Path.{_≡_, _∙_, ap}
 use native.Mathlib.Omega.{arith}
 use Rattle.report.specs.Put.{countsIn}
 use Rattle.report.proofs.Listed.{counts-none, counts-more}
