@@ -1,13 +1,13 @@
 -- A station's steps by their ways out: which way a definition goes under the tests that lead there. What a callee gave is a variable
 -- with its equation.
 use Prim.Native.Nat.{ℕ, zero, suc, _+_, _^_, _≤_, _<_, min}
-use mathlib.Core.Path.{_≡_, refl, sym, ap, _∙_}
+use mathlib.Core.Path.{_≡_, refl, sym, ap, subst, _∙_}
 use mathlib.Core.Bool.{Bool, true, false, cond, _||_, _&&_, and-false}
 use native.Mathlib.Decide.{decLt}
 use native.Mathlib.Omega.{arith}
-use borrow.Author.Tests.{lt-ltb, le-ltb, eq-eqb, ne-eqb, le-leb, lt-leb}
+use borrow.Author.Tests.{ltb-true, lt-ltb, le-ltb, eq-eqb, ne-eqb, le-leb, lt-leb}
 use lib.Count.{ones-le}
-use lib.Dec.{ltb, leb}
+use lib.Dec.{T as Holds, ltb, leb, eqb}
 use Rattle.sets.specs.Mask.{size, union, aloneIn, memberAfter}
 use Rattle.sets.specs.Arrays.{arrayLength, ownArray, otherArray}
 use Rattle.method.specs.declared.Reading.{Reading}
@@ -20,6 +20,8 @@ use Rattle.method.specs.declared.State.the-variants.{NotBegun, Uniting, Gatheri
 use Rattle.method.specs.declared.Op.{Op}
 use Rattle.method.specs.declared.Op.the-variants.{Post, Write, Read, ReadLine, Rest}
 use Rattle.method.specs.Steps.{gather, climb, reading, writing, pending, reach, wrote, found, again, roundOver, readOther, readOwn, changed, absorbOwn, absorbOther, nextOp, absorb}
+use Rattle.station.specs.declared.uniting.Moved.{Moved}
+use Rattle.station.specs.Hand.{of, movedTo, brought, goesOn, readingOver, absorbUnion}
 
 -- a set in a word has at most 64 members
 pub size-word : (s : ℕ) → s < 2 ^ 64 → size s ≤ 64
@@ -104,51 +106,89 @@ module _ (N k : ℕ) (own other : Reading) where
     unfolding roundOver
     over-changed s r h = rw r h
 
-    pub other-pending : (s : State) (b : Bool) → b ≡ pending k other → b ≡ true → s ≡ Uniting k own other Other round → s ≡ readOther N k own other round
+-- ---- the reading in hand
+
+pub of-own : {A : Type 0} (side : Side) (x a b : A) → side ≡ Own → x ≡ a → x ≡ of side a b
+of-own side x a b e h = rw e h
+
+pub of-other : {A : Type 0} (side : Side) (x a b : A) → side ≡ Other → x ≡ b → x ≡ of side a b
+of-other side x a b e h = rw e h
+
+-- what is known stays far below its word
+pub known-fits : (r : Reading) (b : Bool) → b ≡ writing r → b ≡ true → r .set < 2 ^ 64 → r .known + 1 < 2 ^ 32
+unfolding writing
+known-fits r b e t w =
+    let below : r .known < size (r .set) = ltb-true _ _ (sym e ∙ t) in
+    let most : size (r .set) ≤ 64 = size-word (r .set) w in
+    omega arith
+
+module _ (r : Reading) (round : Round) (v : ℕ) where
+  pub brought-wrote : (b : Bool) → b ≡ writing r → b ≡ true → movedTo (wrote r) round false ≡ brought r round v
+  unfolding brought
+  brought-wrote b e t = rw (← e, t)
+
+  pub brought-empty : (b : Bool) → b ≡ writing r → b ≡ false → v ≡ 0 → movedTo r round true ≡ brought r round v
+  unfolding brought
+  brought-empty b e t z = rw (← e, t, eq-eqb _ _ z)
+
+  pub brought-found : (b : Bool) (x : Reading) (o : Round) → b ≡ writing r → b ≡ false → (v ≡ 0 → ⊥) → x ≡ found r v → o ≡ changed round → movedTo x o false ≡ brought r round v
+  unfolding brought
+  brought-found b x o e t z p q = rw (← e, t, ne-eqb _ _ z, p, q)
+
+pub on-over : (k : ℕ) (b : Moved) → b .over ≡ true → false ≡ goesOn k b
+on-over k b e = rw e
+
+pub on-pending : (k : ℕ) (b : Moved) (p : Bool) → b .over ≡ false → p ≡ pending k (b .reading) → p ≡ goesOn k b
+on-pending k b p e h = rw e h
+
+module _ (N k : ℕ) (own other : Reading) (round : Round) where
+  module _ (side : Side) where
+    pub over-other : (s : State) (b : Bool) → b ≡ of side (pending k other) false → b ≡ true → s ≡ Uniting k own other Other round → s ≡ readingOver N k own other side round
     unfolding readOther
-    other-pending s b e t h = rw (← e, t) h
+    over-other s b e t h = h ∙ at side (sym e ∙ t)
+      where
+        at : (x : Side) → of x (pending k other) false ≡ true → Uniting k own other Other round ≡ readingOver N k own other x round
+        at Own f = rw f
+        at Other f = absurd (subst (λ (z : Bool). Holds z) (sym f) tt)
 
-    pub other-read : (s : State) (b : Bool) → b ≡ pending k other → b ≡ false → s ≡ roundOver N k own other round → s ≡ readOther N k own other round
+    pub over-round : (s : State) (b : Bool) → b ≡ of side (pending k other) false → b ≡ false → s ≡ roundOver N k own other round → s ≡ readingOver N k own other side round
     unfolding readOther
-    other-read s b e t h = rw (← e, t) h
+    over-round s b e t h = h ∙ at side (sym e ∙ t)
+      where
+        at : (x : Side) → of x (pending k other) false ≡ false → roundOver N k own other round ≡ readingOver N k own other x round
+        at Own f = rw f
+        at Other f = refl
 
-    pub own-pending : (s : State) (b : Bool) → b ≡ pending k own → b ≡ true → s ≡ Uniting k own other Own round → s ≡ readOwn N k own other round
-    unfolding readOwn
-    own-pending s b e t h = rw (← e, t) h
+  module _ (v : ℕ) where
+    -- the union goes on from what was brought to the reading in hand
+    abbrev goes : Side → Moved → State
+    goes side b =
+        cond (goesOn k b) (Uniting k (of side (b .reading) own) (of side other (b .reading)) side (b .round))
+        (readingOver N k (of side (b .reading) own) (of side other (b .reading)) side (b .round))
 
-    pub own-read : (s : State) (b : Bool) → b ≡ pending k own → b ≡ false → s ≡ readOther N k own other round → s ≡ readOwn N k own other round
-    unfolding readOwn
-    own-read s b e t h = rw (← e, t) h
+    union-goes : (side : Side) → absorbUnion N k own other side round v ≡ goes side (brought (of side own other) round v)
+    unfolding absorbOwn absorbOther readOwn readOther brought
+    union-goes Own = at (writing own) (eqb v 0)
+      where
+        at : (x y : Bool) → cond x (readOwn N k (wrote own) other round) (cond y (readOther N k own other round) (readOwn N k (found own v) other (changed round)))
+            ≡ goes Own (cond x (movedTo (wrote own) round false) (cond y (movedTo own round true) (movedTo (found own v) (changed round) false)))
+        at true y = refl
+        at false true = refl
+        at false false = refl
+    union-goes Other = at (writing other) (eqb v 0)
+      where
+        at : (x y : Bool) → cond x (readOther N k own (wrote other) round) (cond y (roundOver N k own other round) (readOther N k own (found other v) (changed round)))
+            ≡ goes Other (cond x (movedTo (wrote other) round false) (cond y (movedTo other round true) (movedTo (found other v) (changed round) false)))
+        at true y = refl
+        at false true = refl
+        at false false = refl
 
-    -- what an operation brought, by the side it was on
-    module _ (v : ℕ) where
-      pub own-wrote : (s : State) (n : ℕ) → n ≡ size (own .set) → own .known < n → s ≡ readOwn N k (wrote own) other round → s ≡ absorbOwn N k own other round v
-      unfolding absorbOwn writing
-      own-wrote s n e l h = rw (← e, lt-ltb _ _ l) h
+    module _ (side : Side) (r : Reading) (now : Moved) (b : Bool) (o t : Reading) where
+      pub union-on : (s : State) → r ≡ of side own other → now ≡ brought r round v → b ≡ goesOn k now → b ≡ true → o ≡ of side (now .reading) own → t ≡ of side other (now .reading) → s ≡ Uniting k o t side (now .round) → s ≡ absorbUnion N k own other side round v
+      union-on s h n e f p q g = g ∙ rw (p, q) (sym (union-goes side ∙ ap (goes side) (sym (n ∙ ap (λ (x : Reading). brought x round v) h)) ∙ rw (← e, f)))
 
-      pub own-empty : (s : State) (n : ℕ) → n ≡ size (own .set) → n ≤ own .known → v ≡ 0 → s ≡ readOther N k own other round → s ≡ absorbOwn N k own other round v
-      unfolding absorbOwn writing
-      own-empty s n e l z h = rw (← e, le-ltb _ _ l, eq-eqb _ _ z) h
-
-      pub own-found : (s : State) (n : ℕ) (r : Reading) (o : Round) → n ≡ size (own .set) → n ≤ own .known → (v ≡ 0 → ⊥) → r ≡ found own v → o ≡ changed round → s ≡ readOwn N k r other o → s ≡ absorbOwn N k own other round v
-      unfolding absorbOwn writing
-      own-found s n r o e l z p q h =
-          let f : ltb (own .known) (size (own .set)) ≡ false = le-ltb _ _ (rw e at l) in
-          rw (f, ne-eqb _ _ z, ← p, ← q) h
-
-      pub other-wrote : (s : State) (n : ℕ) → n ≡ size (other .set) → other .known < n → s ≡ readOther N k own (wrote other) round → s ≡ absorbOther N k own other round v
-      unfolding absorbOther writing
-      other-wrote s n e l h = rw (← e, lt-ltb _ _ l) h
-
-      pub other-empty : (s : State) (n : ℕ) → n ≡ size (other .set) → n ≤ other .known → v ≡ 0 → s ≡ roundOver N k own other round → s ≡ absorbOther N k own other round v
-      unfolding absorbOther writing
-      other-empty s n e l z h = rw (← e, le-ltb _ _ l, eq-eqb _ _ z) h
-
-      pub other-found : (s : State) (n : ℕ) (r : Reading) (o : Round) → n ≡ size (other .set) → n ≤ other .known → (v ≡ 0 → ⊥) → r ≡ found other v → o ≡ changed round → s ≡ readOther N k own r o → s ≡ absorbOther N k own other round v
-      unfolding absorbOther writing
-      other-found s n r o e l z p q h =
-          let f : ltb (other .known) (size (other .set)) ≡ false = le-ltb _ _ (rw e at l) in
-          rw (f, ne-eqb _ _ z, ← p, ← q) h
+      pub union-over : (s : State) → r ≡ of side own other → now ≡ brought r round v → b ≡ goesOn k now → b ≡ false → o ≡ of side (now .reading) own → t ≡ of side other (now .reading) → s ≡ readingOver N k o t side (now .round) → s ≡ absorbUnion N k own other side round v
+      union-over s h n e f p q g = g ∙ rw (p, q) (sym (union-goes side ∙ ap (goes side) (sym (n ∙ ap (λ (x : Reading). brought x round v) h)) ∙ rw (← e, f)))
 
 -- ---- the next operation, by the state
 
@@ -157,13 +197,13 @@ module _ (i : ℕ) (st : State) where
   unfolding nextOp
   next-post stocks e = rw e
 
-  pub next-own : (k : ℕ) (own other : Reading) (side : Side) (round : Round) (c : ℕ) (o : Op) → st ≡ Uniting k own other side round → side ≡ Own → c ≡ ownArray k i → o ≡ reach k c own → o ≡ nextOp i st
+  pub next-union : (k : ℕ) (own other : Reading) (side : Side) (round : Round) (c : ℕ) (r : Reading) (o : Op) → st ≡ Uniting k own other side round → c ≡ of side (ownArray k i) (otherArray k i) → r ≡ of side own other → o ≡ reach k c r → o ≡ nextOp i st
   unfolding nextOp
-  next-own k own other side round c o e s a h = rw (e, s, ← a) h
-
-  pub next-other : (k : ℕ) (own other : Reading) (side : Side) (round : Round) (c : ℕ) (o : Op) → st ≡ Uniting k own other side round → side ≡ Other → c ≡ otherArray k i → o ≡ reach k c other → o ≡ nextOp i st
-  unfolding nextOp
-  next-other k own other side round c o e s a h = rw (e, s, ← a) h
+  next-union k own other side round c r o e a h g = g ∙ rw (a, h, e) (at side)
+    where
+      at : (x : Side) → reach k (of x (ownArray k i) (otherArray k i)) (of x own other) ≡ nextOp i (Uniting k own other x round)
+      at Own = refl
+      at Other = refl
 
   pub next-line : (S j got : ℕ) → st ≡ Gathering S j got → ReadLine j ≡ nextOp i st
   unfolding nextOp
@@ -192,13 +232,13 @@ module _ (N i : ℕ) (st : State) (v : ℕ) where
     unfolding absorb
     brought-begin stocks a s e q t = is s (rw e (t ∙ ap (λ (x : ℕ). climb N 0 x) (q ∙ rw (le-leb 1 i (omega arith), le-leb _ _ h))))
 
-    pub brought-own : (k : ℕ) (own other : Reading) (side : Side) (round : Round) (s : State) → st ≡ Uniting k own other side round → side ≡ Own → s ≡ absorbOwn N k own other round v → s ≡ cond (leb 1 i && leb i 64) (absorb N i st v) st
+    pub brought-union : (k : ℕ) (own other : Reading) (side : Side) (round : Round) (s : State) → st ≡ Uniting k own other side round → s ≡ absorbUnion N k own other side round v → s ≡ cond (leb 1 i && leb i 64) (absorb N i st v) st
     unfolding absorb
-    brought-own k own other side round s e o t = is s (rw (e, o) t)
-
-    pub brought-other : (k : ℕ) (own other : Reading) (side : Side) (round : Round) (s : State) → st ≡ Uniting k own other side round → side ≡ Other → s ≡ absorbOther N k own other round v → s ≡ cond (leb 1 i && leb i 64) (absorb N i st v) st
-    unfolding absorb
-    brought-other k own other side round s e o t = is s (rw (e, o) t)
+    brought-union k own other side round s e t = is s (t ∙ rw e (at side))
+      where
+        at : (x : Side) → absorbUnion N k own other x round v ≡ absorb N i (Uniting k own other x round) v
+        at Own = refl
+        at Other = refl
 
     pub brought-line : (S j got u : ℕ) (s : State) → st ≡ Gathering S j got → u ≡ union got v → s ≡ gather S j u → s ≡ cond (leb 1 i && leb i 64) (absorb N i st v) st
     unfolding absorb

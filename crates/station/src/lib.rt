@@ -8,13 +8,12 @@ ghost use Rattle.method.specs.Steps.{nextOp, absorb};
 mod reading;
 
 // Gathering the stocks of the stations in S, and the way from one level to the next.
-mod climbing;
+pub mod climbing;
 
 // The union over two arrays.
 mod uniting;
 
 use method::Op;
-use method::Side;
 use method::State;
 
 // What station i does next.
@@ -29,10 +28,11 @@ pub fn next_op(i: u8, state: State) -> Op
             other,
             side,
             round: _,
-        } => match side {
-            Side::Own => reading::reach(level, sets::arrays::own_array(level, i), own),
-            Side::Other => reading::reach(level, sets::arrays::other_array(level, i), other),
-        },
+        } => reading::reach(
+            level,
+            uniting::array_in_hand(side, level, i),
+            uniting::in_hand(side, own, other),
+        ),
         State::Gathering {
             set: _,
             station,
@@ -61,10 +61,7 @@ pub fn absorbed(n: u8, i: u8, state: State, v: u64) -> State
             other,
             side,
             round,
-        } => match side {
-            Side::Own => uniting::absorbed_own(n, level, own, other, round, v),
-            Side::Other => uniting::absorbed_other(n, level, own, other, round, v),
-        },
+        } => uniting::absorbed(n, level, own, other, side, round, v),
         State::Gathering {
             set,
             station,

@@ -1,6 +1,9 @@
 // The union at level k of n: own and other are read until two readings of both agree.
 ghost use mathlib.Core.Path.{_≡_};
-ghost use Rattle.method.specs.Steps.{again, roundOver, readOther, readOwn, changed, wrote, found, absorbOwn, absorbOther};
+ghost use mathlib.Core.Bool.{false};
+ghost use Rattle.sets.specs.Arrays.{ownArray, otherArray};
+ghost use Rattle.method.specs.Steps.{pending, again, roundOver, changed, found};
+ghost use Rattle.station.specs.Hand.{of, brought, goesOn, readingOver, absorbUnion};
 use super::climbing::climbed;
 use super::reading::is_pending;
 use super::reading::is_writing;
@@ -45,24 +48,6 @@ pub fn round_over(n: u8, k: u8, own: Reading, other: Reading, round: Round) -> S
     }
 }
 
-pub fn read_other(n: u8, k: u8, own: Reading, other: Reading, round: Round) -> State
-    ensures { λ r. ⌜ r ≡ readOther n k own other round ⌝ }
-{
-    if is_pending(k, other) {
-        return at(k, own, other, Side::Other, round);
-    }
-    round_over(n, k, own, other, round)
-}
-
-pub fn read_own(n: u8, k: u8, own: Reading, other: Reading, round: Round) -> State
-    ensures { λ r. ⌜ r ≡ readOwn n k own other round ⌝ }
-{
-    if is_pending(k, own) {
-        return at(k, own, other, Side::Own, round);
-    }
-    read_other(n, k, own, other, round)
-}
-
 // The round in which something was found.
 fn changed_round(round: Round) -> Round
     ensures { λ r. ⌜ r ≡ changed round ⌝ }
@@ -84,36 +69,116 @@ fn found_set(r: Reading, t: u64) -> Reading
     }
 }
 
-// What an operation on the own array brought.
-pub fn absorbed_own(n: u8, k: u8, own: Reading, other: Reading, round: Round, v: u64) -> State
-    ensures { λ r. ⌜ r ≡ absorbOwn n k own other round v ⌝ }
+// The reading in hand.
+pub fn in_hand(side: Side, own: Reading, other: Reading) -> Reading
+    ensures { λ r. ⌜ r ≡ of side own other ⌝ }
 {
-    if own.known < sets::mask::size_of(own.set) {
-        let wrote = Reading {
-            set: own.set,
-            known: own.known + 1,
-        };
-        return read_own(n, k, wrote, other, round);
+    match side {
+        Side::Own => own,
+        Side::Other => other,
     }
-    if v == 0 {
-        return read_other(n, k, own, other, round);
-    }
-    read_own(n, k, found_set(own, v), other, changed_round(round))
 }
 
-// What an operation on the other array brought.
-pub fn absorbed_other(n: u8, k: u8, own: Reading, other: Reading, round: Round, v: u64) -> State
-    ensures { λ r. ⌜ r ≡ absorbOther n k own other round v ⌝ }
+// The array of level k that it reads for station i.
+pub fn array_in_hand(side: Side, k: u8, i: u8) -> u32
+    ensures { λ r. ⌜ r ≡ of side (ownArray k i) (otherArray k i) ⌝ }
 {
-    if other.known < sets::mask::size_of(other.set) {
-        let wrote = Reading {
-            set: other.set,
-            known: other.known + 1,
+    match side {
+        Side::Own => sets::arrays::own_array(k, i),
+        Side::Other => sets::arrays::other_array(k, i),
+    }
+}
+
+// The reading in hand after its operation, the round, and whether the reading is over.
+pub struct Moved {
+    pub reading: Reading,
+    pub round: Round,
+    pub over: bool,
+}
+
+// What the operation brought to the reading.
+fn brought(r: Reading, round: Round, v: u64) -> Moved
+    ensures { λ b. ⌜ b ≡ brought r round v ⌝ }
+{
+    if is_writing(r) {
+        return Moved {
+            reading: Reading {
+                set: r.set,
+                known: r.known + 1,
+            },
+            round: round,
+            over: false,
         };
-        return read_other(n, k, own, wrote, round);
     }
     if v == 0 {
-        return round_over(n, k, own, other, round);
+        return Moved {
+            reading: r,
+            round: round,
+            over: true,
+        };
     }
-    read_other(n, k, own, found_set(other, v), changed_round(round))
+    Moved {
+        reading: found_set(r, v),
+        round: changed_round(round),
+        over: false,
+    }
+}
+
+// Whether the reading has an operation left.
+fn goes_on(k: u8, b: Moved) -> bool
+    ensures { λ r. ⌜ r ≡ goesOn k b ⌝ }
+{
+    if b.over {
+        return false;
+    }
+    is_pending(k, b.reading)
+}
+
+// Whether the other array comes next: after the own one, unless it is known in full.
+fn comes_next(k: u8, side: Side, other: Reading) -> bool
+    ensures { λ r. ⌜ r ≡ of side (pending k other) false ⌝ }
+{
+    match side {
+        Side::Own => is_pending(k, other),
+        Side::Other => false,
+    }
+}
+
+// The reading in hand is over.
+fn reading_over(n: u8, k: u8, own: Reading, other: Reading, side: Side, round: Round) -> State
+    ensures { λ r. ⌜ r ≡ readingOver n k own other side round ⌝ }
+{
+    if comes_next(k, side, other) {
+        return at(k, own, other, Side::Other, round);
+    }
+    round_over(n, k, own, other, round)
+}
+
+// What an operation of the union brought.
+pub fn absorbed(
+    n: u8,
+    k: u8,
+    own: Reading,
+    other: Reading,
+    side: Side,
+    round: Round,
+    v: u64,
+) -> State
+    ensures { λ r. ⌜ r ≡ absorbUnion n k own other side round v ⌝ }
+{
+    let now = brought(in_hand(side, own, other), round, v);
+    let found = now.round;
+    if goes_on(k, now) {
+        let own_on = in_hand(side, now.reading, own);
+        return at(k, own_on, in_hand(side, other, now.reading), side, found);
+    }
+    let own_over = in_hand(side, now.reading, own);
+    reading_over(
+        n,
+        k,
+        own_over,
+        in_hand(side, other, now.reading),
+        side,
+        found,
+    )
 }

@@ -1,5 +1,5 @@
 use borrow.Author.Needs.{needs}
-use Rattle.station.proofs.Ways.{none-low, none-high, brought-begin, brought-own, brought-other, brought-line, brought-rest}
+use Rattle.station.proofs.Ways.{none-low, none-high, brought-begin, brought-union, brought-line, brought-rest}
 use Rattle.station.proofs.absorbed.Statement.{statement}
 use Rattle.station.proofs.absorbed.Tie as tie
 
@@ -21,17 +21,8 @@ climbed-requires c κs = search needs
 enum-known-state : tie.Need-enum-known-state
 enum-known-state c = search needs
 
-enum-told-2 : tie.Need-enum-told-2
-enum-told-2 c = search needs
-
-absorbed-own-requires : tie.Need-absorbed-own-requires
-absorbed-own-requires c κs = search needs
-
-enum-told-3 : tie.Need-enum-told-3
-enum-told-3 c = search needs
-
-absorbed-other-requires : tie.Need-absorbed-other-requires
-absorbed-other-requires c κs = search needs
+absorbed-requires : tie.Need-absorbed-requires
+absorbed-requires c κs = search needs
 
 enum-known-state-2 : tie.Need-enum-known-state-2
 enum-known-state-2 c = search needs
@@ -42,23 +33,20 @@ union-of-requires c κs = search needs
 gathered-requires : tie.Need-gathered-requires
 gathered-requires c κs = search needs
 
-enum-told-4 : tie.Need-enum-told-4
-enum-told-4 c = search needs
+enum-told-2 : tie.Need-enum-told-2
+enum-told-2 c = search needs
 
 returns-3 : tie.Need-returns-3
 returns-3 c = search (brought-begin, needs)
 
 returns-4 : tie.Need-returns-4
-returns-4 c = search (brought-own, needs)
+returns-4 c = search (brought-union, needs)
 
 returns-5 : tie.Need-returns-5
-returns-5 c = search (brought-other, needs)
+returns-5 c = search (brought-line, needs)
 
 returns-6 : tie.Need-returns-6
-returns-6 c = search (brought-line, needs)
-
-returns-7 : tie.Need-returns-7
-returns-7 c = search (brought-rest, needs)
+returns-6 c = search (brought-rest, needs)
 
 pub absorbed-spec : {M : Type 1} → statement M
 absorbed-spec =
@@ -70,16 +58,12 @@ absorbed-spec =
     alone-requires
     climbed-requires
     enum-known-state
-    enum-told-2
-    absorbed-own-requires
-    enum-told-3
-    absorbed-other-requires
+    absorbed-requires
     enum-known-state-2
     union-of-requires
     gathered-requires
-    enum-told-4
+    enum-told-2
     returns-3
     returns-4
     returns-5
-    returns-6
-    returns-7)
+    returns-6)
