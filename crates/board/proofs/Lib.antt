@@ -1,11 +1,12 @@
 -- Laws for the proofs of this crate.
 mod Filled
 mod Placing
-mod Turns
+mod Moving
 mod Within
 mod Values
 mod Record
 mod Calling
+mod Seating
 mod Stepping
 mod Shape
 pub mod Orders

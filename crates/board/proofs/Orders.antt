@@ -5,6 +5,7 @@ use mathlib.Core.Bool.{Bool, true, false, cond, _&&_, and-false}
 use mathlib.Core.List.{List}
 use native.Mathlib.Numerals.{add-one}
 use native.Mathlib.Omega.{arith}
+use borrow.Author.Tests.{leb-true}
 use lib.Dec.{T as Holds, leb, ltb}
 use lib.ListN.{length, getD}
 use Rattle.method.specs.declared.Line.{Line}
@@ -21,6 +22,7 @@ use Rattle.method.specs.Turn.{turned, readLine, perform, named, turn}
 use Rattle.method.specs.Demand.{isSettled}
 use Rattle.board.specs.Step.{countEnd, stepOf}
 use Rattle.board.specs.Places.{seatAt}
+use Rattle.board.proofs.Placing.{seat-own}
 use Rattle.board.specs.Playing.{stepped, firstFrom, isUnwritten, unwrittenStep, stopsAt, playedOf}
 
 module _ (test : ℕ → Bool) where
@@ -121,7 +123,7 @@ module _ (run : Run) (i : ℕ) where
       at true false e = refl
       at false y e = refl
 
--- A turn of a settled station is still. So is a turn of a number that has no row, which is seated at the first one.
+-- A turn of a settled station is still. So is a turn of a number that has no row, whichever it is seated at.
 module _ (run : Run) (rows : length (run .rows) ≡ 16) (i : ℕ) where
   settled-op : (s : State) → isSettled s ≡ true → nextOp i s ≡ Rest
   unfolding nextOp
@@ -142,12 +144,14 @@ module _ (run : Run) (rows : length (run .rows) ≡ 16) (i : ℕ) where
 
   pub settled-still : isSettled (getD (run .rows) (seatAt i) (notBegun 0) .state) ≡ true → Still run (stepOf run i)
   unfolding stepOf turn named rowOf
-  settled-still e = at (leb i 16) refl
+  settled-still e = at (leb 1 i) (leb i 16) refl refl
     where
-      at : (x : Bool) → leb i 16 ≡ x → Still run (stepOf run i)
-      at true f =
-          let settled : isSettled (rowOf run i .state) ≡ true = sym (rw f) ∙ e in
+      nobody : named run i ≡ false → Still run (stepOf run i)
+      nobody f = subst (λ (y : Bool). Still run (cond (ltb (rowOf run i .count) countEnd) (cond y (perform run i (nextOp i (rowOf run i .state))) (turned run Nobody)) (turned run Nobody))) (sym f) (still (ltb (rowOf run i .count) countEnd))
+
+      at : (x y : Bool) → leb 1 i ≡ x → leb i 16 ≡ y → Still run (stepOf run i)
+      at true true f g =
+          let settled : isSettled (rowOf run i .state) ≡ true = subst (λ (n : ℕ). isSettled (getD (run .rows) n (notBegun 0) .state) ≡ true) (seat-own i (leb-true 1 i f) (leb-true i 16 g)) e in
           subst (λ (op : Op). Still run (cond (ltb (rowOf run i .count) countEnd) (cond (named run i) (perform run i op) (turned run Nobody)) (turned run Nobody))) (sym (settled-op (rowOf run i .state) settled)) (idle (ltb (rowOf run i .count) countEnd) (named run i))
-      at false f =
-          let nobody : named run i ≡ false = rw (rows, f) (and-false (leb 1 i && leb i (run .stations))) in
-          subst (λ (y : Bool). Still run (cond (ltb (rowOf run i .count) countEnd) (cond y (perform run i (nextOp i (rowOf run i .state))) (turned run Nobody)) (turned run Nobody))) (sym nobody) (still (ltb (rowOf run i .count) countEnd))
+      at true false f g = nobody (rw (rows, g) (and-false (leb 1 i && leb i (run .stations))))
+      at false y f g = nobody (rw f)

@@ -1,4 +1,5 @@
 -- What the board's contracts say beyond the method's own definitions.
 pub mod Step
 pub mod Places
+pub mod Moves
 pub mod Playing

@@ -1,9 +1,8 @@
 -- One turn on the run record.
-use Prim.Native.Nat.{ℕ, _≤_, _<_}
+use Prim.Native.Nat.{ℕ}
 use mathlib.Core.Bool.{cond}
 use lib.Dec.{ltb}
 use Rattle.method.specs.declared.Did.the-variants.{Nobody}
-use Rattle.method.specs.declared.Row.{Row}
 use Rattle.method.specs.declared.Run.{Run}
 use Rattle.method.specs.declared.Turned.{Turned}
 use Rattle.method.specs.Board.{rowOf}
@@ -15,9 +14,3 @@ countEnd = 65535
 
 unfoldable pub stepOf : Run → ℕ → Turned
 stepOf run i = cond (ltb (rowOf run i .count) countEnd) (turn run i) (turned run Nobody)
-
--- i is the number of a station that has a row on the record, and r has room in its count
-pub record Seated (i : ℕ) (r : Row) : Type 0 where
-  pub low : 1 ≤ i
-  pub high : i ≤ 16
-  pub room : r .count < countEnd

@@ -6,6 +6,15 @@ pub mod start;
 // Where on the record a turn reads and writes.
 mod places;
 
+// A station's count.
+mod counts;
+
+// A turn on a register.
+mod registers;
+
+// A turn on a line.
+mod lines;
+
 // One turn.
 pub mod turning;
 

@@ -9,8 +9,8 @@ next-op-requires c κs = search needs
 enum-told : tie.Need-enum-told
 enum-told c = search needs
 
-at-line-requires : tie.Need-at-line-requires
-at-line-requires c κs = search needs
+off-record-requires : tie.Need-off-record-requires
+off-record-requires c κs = search needs
 
 enum-known-op : tie.Need-enum-known-op
 enum-known-op c = search needs
@@ -24,17 +24,17 @@ enum-known-op-2 c = search needs
 at-register-requires-2 : tie.Need-at-register-requires-2
 at-register-requires-2 c κs = search needs
 
-enum-known-op-3 : tie.Need-enum-known-op-3
-enum-known-op-3 c = search needs
-
-at-line-requires-2 : tie.Need-at-line-requires-2
-at-line-requires-2 c κs = search needs
-
 enum-told-2 : tie.Need-enum-told-2
 enum-told-2 c = search needs
 
-off-record-requires : tie.Need-off-record-requires
-off-record-requires c κs = search needs
+off-record-requires-2 : tie.Need-off-record-requires-2
+off-record-requires-2 c κs = search needs
+
+enum-told-3 : tie.Need-enum-told-3
+enum-told-3 c = search needs
+
+off-record-requires-3 : tie.Need-off-record-requires-3
+off-record-requires-3 c κs = search needs
 
 returns : tie.Need-returns
 returns c = search (aims-post, needs)
@@ -57,15 +57,15 @@ aim-of-spec =
     (tie.spec
     next-op-requires
     enum-told
-    at-line-requires
+    off-record-requires
     enum-known-op
     at-register-requires
     enum-known-op-2
     at-register-requires-2
-    enum-known-op-3
-    at-line-requires-2
     enum-told-2
-    off-record-requires
+    off-record-requires-2
+    enum-told-3
+    off-record-requires-3
     returns
     returns-2
     returns-3
