@@ -1,12 +1,4 @@
--- Laws for the proofs of this crate.
+-- Laws for the proofs of this crate, and of where the parts of the record stand.
 mod Filled
-mod Placing
+pub mod Placing
 mod Moving
-mod Within
-mod Values
-mod Record
-mod Calling
-mod Seating
-mod Stepping
-mod Shape
-pub mod Orders

@@ -21,8 +21,7 @@ use Rattle.method.specs.Steps.{gather, climb, absorb}
 use Rattle.board.specs.declared.places.Aim.{Aim}
 use Rattle.board.specs.declared.registers.Effect.{Effect}
 use Rattle.board.specs.declared.lines.Lined.{Lined}
-use Rattle.board.specs.Step.{countEnd}
-use Rattle.board.specs.Moves.{mayTurn, oneMore, effect, effectOf, onward, unitedOf, leaves, posted, gatheredOf, linedOf}
+use Rattle.board.specs.Moves.{countEnd, mayTurn, oneMore, effect, effectOf, onward, unitedOf, leaves, posted, gatheredOf, linedOf}
 
 -- ---- the count
 

@@ -1,5 +1,3 @@
 -- What the board's contracts say beyond the method's own definitions.
-pub mod Step
 pub mod Places
 pub mod Moves
-pub mod Playing

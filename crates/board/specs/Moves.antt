@@ -17,7 +17,10 @@ use Rattle.board.specs.declared.places.Aim.{Aim}
 use Rattle.board.specs.declared.registers.Effect.{Effect}
 use Rattle.board.specs.declared.registers.United.{United}
 use Rattle.board.specs.declared.lines.Lined.{Lined}
-use Rattle.board.specs.Step.{countEnd}
+
+-- a count is two bytes wide on the record
+abbrev pub countEnd : ℕ
+countEnd = 65535
 
 -- i is a station of n, and its row has room in its count
 abbrev pub mayTurn : ℕ → ℕ → Row → Bool

@@ -1,7 +1,7 @@
 use borrow.Author.Needs.{needs}
 use Rattle.board.proofs.Moving.{none-turns, beyond-turns, off-turns, own-turns}
-use Rattle.board.proofs.turning.may_turn.Statement.{statement}
-use Rattle.board.proofs.turning.may_turn.Tie as tie
+use Rattle.board.proofs.rows.may_turn.Statement.{statement}
+use Rattle.board.proofs.rows.may_turn.Tie as tie
 
 returns : tie.Need-returns
 returns c = search (none-turns, needs)

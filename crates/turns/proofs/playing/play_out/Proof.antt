@@ -45,21 +45,21 @@ use borrow.Table.OneValue.{part-in}
 use Rattle.method.specs.declared.Run.{Run}
 use Rattle.method.proofs.Run as Rn
 use Rattle.method.proofs.Run.Laws as Rn′
-use Rattle.board.specs.declared.playing.Played.{Played}
-use Rattle.board.specs.Playing.{stepped, stopsAt, playedOf}
-use Rattle.board.proofs.Values.{runVal}
-use Rattle.board.proofs.Within.{cell-out}
-use Rattle.board.proofs.Calling.{calls-lent, last-said}
-use Rattle.board.proofs.playing.Played as Pd
-use Rattle.board.proofs.playing.Played.Laws as Pd′
-use Rattle.board.proofs.playing.play as play
-use Rattle.board.proofs.playing.play.Symbol as play-def
-use Rattle.board.proofs.playing.play.Symbol.{name as #board·playing·play}
-use Rattle.board.proofs.playing.play.Met as play-thm
-use Rattle.board.proofs.playing.play_out.Key.{name as #board·playing·play-out}
-use Rattle.board.proofs.playing.play_out as out
-use Rattle.board.proofs.playing.play_out.Statement as stated
-use Rattle.board.proofs.playing.play_out.Code as code
+use Rattle.turns.specs.declared.playing.Played.{Played}
+use Rattle.turns.specs.Playing.{stepped, stopsAt, playedOf}
+use Rattle.turns.proofs.Values.{runVal}
+use Rattle.turns.proofs.Within.{cell-out}
+use Rattle.turns.proofs.Calling.{calls-lent, last-said}
+use Rattle.turns.proofs.playing.Played as Pd
+use Rattle.turns.proofs.playing.Played.Laws as Pd′
+use Rattle.turns.proofs.playing.play as play
+use Rattle.turns.proofs.playing.play.Symbol as play-def
+use Rattle.turns.proofs.playing.play.Symbol.{name as #turns·playing·play}
+use Rattle.turns.proofs.playing.play.Met as play-thm
+use Rattle.turns.proofs.playing.play_out.Key.{name as #turns·playing·play-out}
+use Rattle.turns.proofs.playing.play_out as out
+use Rattle.turns.proofs.playing.play_out.Statement as stated
+use Rattle.turns.proofs.playing.play_out.Code as code
 
 abbrev Arg : Type 0
 Arg = Run × (RefT (List ℕ) × Unit {0})
@@ -137,7 +137,7 @@ module _ {M : Type 1} (𝓤 : URA M) (H : Heap 𝓤) (A : Atoms 𝓤) (W : Given
         -- [the token of the turns; true; the token of the record; what a number owns; the last value]
         move ! (3 ∷ []) $ frame ! $ check ! e $ move ! (2 ∷ []) $ frame ! $ frame ! $ drop ! $ done !))
 
-  module _ (C : Calls 𝓤 H) (Λ : Loops 𝓤 H) (fm : FmC 𝓤 H (W .laws) C) (known-play : Triple 𝓤 (C #board·playing·play) (Play 𝓤 H A at-mem run)) where
+  module _ (C : Calls 𝓤 H) (Λ : Loops 𝓤 H) (fm : FmC 𝓤 H (W .laws) C) (known-play : Triple 𝓤 (C #turns·playing·play) (Play 𝓤 H A at-mem run)) where
     walk : ent 𝓤 (onEntry 𝓤 H A out.signature (κ, tt) (q, tt) x at) (WpFn 𝓤 H C Λ code.function (runVal h ∷ sv ∷ []) Post)
     walk =
         qed W ((‵ (flft κ q) ⊛ ‵ ftrue) ∷ ‵ (owns (Rn.the-row ∷ ShrSlice (named 0) κ u8 ∷ []) x at) ∷ []) ∵ split ! $ move ! (2 ∷ []) $ fsplit ! $ drop ! $ fsplit ! $
@@ -166,7 +166,7 @@ module _ {M : Type 1} (𝓤 : URA M) (H : Heap 𝓤) (A : Atoms 𝓤) (W : Given
         by ! (exits p pok (ap (λ (n : ℕ). record { run = h′; at = n }) e))))))))))))))
 
 module _ {M : Type 1} (𝓤 : URA M) (H : Heap 𝓤) (A : Atoms 𝓤) (W : Given 𝓤 H A) (at-mem : Memory → SProp 𝓤) (run : Routine → Fun 𝓤) where
-  play-out-walks : (C : Calls 𝓤 H) (Λ : Loops 𝓤 H) → FmC 𝓤 H (W .laws) C → Triple 𝓤 (C #board·playing·play) (Play 𝓤 H A at-mem run) → Walks 𝓤 H A out.ended stayed (WpFn 𝓤 H C Λ code.function) (out.clauses 𝓤 H A at-mem run)
+  play-out-walks : (C : Calls 𝓤 H) (Λ : Loops 𝓤 H) → FmC 𝓤 H (W .laws) C → Triple 𝓤 (C #turns·playing·play) (Play 𝓤 H A at-mem run) → Walks 𝓤 H A out.ended stayed (WpFn 𝓤 H C Λ code.function) (out.clauses 𝓤 H A at-mem run)
   play-out-walks C Λ fm known-play = walked 𝓤 H A out.ended stayed (out.clauses 𝓤 H A at-mem run) (WpFn 𝓤 H C Λ code.function) (λ κs. (LL.vals Rn.the-type Rn′.the-laws, (slice-vals, tt))) (λ κs. (LL.tells Rn.the-type Rn′.the-laws, (shr-slice-tells (named 0) (κs .0) u8, tt)))
       (λ κs qs bounds a _ are. via 𝓤 _ (fst∗ 𝓤 _ (emp 𝓤)) (walk 𝓤 H A W at-mem run (κs .0) (qs .0) (a .0) (are .0) (a .1 .0) (are .1 .0 .0 .1) C Λ fm known-play))
 
@@ -174,7 +174,7 @@ module _ {M : Type 1} (𝓤 : URA M) (H : Heap 𝓤) (A : Atoms 𝓤) (W : Given
   goes = (goes-none 𝓤 H A W 1 (λ _. Rn.the-row) yes (λ κs x f. refl), (goes-none-slice 𝓤 H A W 1 (0 ∷ []) tt (plain (λ _. u8)) yes, tt))
 
 play-out-meets : {M : Type 1} (𝓤 : URA M) (H : Heap 𝓤) (A : Atoms 𝓤) (W : Given 𝓤 H A) (at-mem : Memory → SProp 𝓤) (run : Routine → Fun 𝓤) (𝓣 : Tables 𝓤 H)
-    → Triple 𝓤 (𝓣 .C #board·playing·play) (Play 𝓤 H A at-mem run) → Meets 𝓤 H A out.signature (WpFn 𝓤 H (𝓣 .C) (𝓣 .Λ) code.function) (out.spec 𝓤 H A at-mem run)
+    → Triple 𝓤 (𝓣 .C #turns·playing·play) (Play 𝓤 H A at-mem run) → Meets 𝓤 H A out.signature (WpFn 𝓤 H (𝓣 .C) (𝓣 .Λ) code.function) (out.spec 𝓤 H A at-mem run)
 play-out-meets 𝓤 H A W at-mem run 𝓣 known-play = walk-meets 𝓤 H A out.ended stayed W (goes 𝓤 H A W at-mem run) (out.clauses 𝓤 H A at-mem run) (WpFn 𝓤 H (𝓣 .C) (𝓣 .Λ) code.function) (WpFn-mono 𝓤 H (W .laws) 𝓣 code.function)
     (play-out-walks 𝓤 H A W at-mem run (𝓣 .C) (𝓣 .Λ) (fmOf 𝓤 H (W .laws) 𝓣) known-play)
 
@@ -182,6 +182,6 @@ pub play-out-spec : {M : Type 1} → stated.statement M
 unfolding code.routine tablesOf
 play-out-spec 𝓤 H 𝓜 𝓖 𝓡 =
     entered 𝓤 H (tripleOf 𝓤 H (𝓖 .A) out.signature (out.spec 𝓤 H (𝓖 .A) (𝓜 .mem) (𝓡 .run)))
-    (tables 𝓤 H 𝓜 𝓡 code.env .C) (tables 𝓤 H 𝓜 𝓡 code.env .Λ) #board·playing·play-out code.function (code.unfolded 𝓤 H 𝓜 𝓡)
+    (tables 𝓤 H 𝓜 𝓡 code.env .C) (tables 𝓤 H 𝓜 𝓡 code.env .Λ) #turns·playing·play-out code.function (code.unfolded 𝓤 H 𝓜 𝓡)
     (play-out-meets 𝓤 H (𝓖 .A) (givenOf 𝓤 H 𝓜 𝓖) (𝓜 .mem) (𝓡 .run) (tablesOf 𝓤 H 𝓜 (tables 𝓤 H 𝓜 𝓡 code.env))
-    (cited 𝓤 H (Play 𝓤 H (𝓖 .A) (𝓜 .mem) (𝓡 .run)) 𝓜 𝓡 code.env #board·playing·play play-def.routine code.calls-board·playing·play (play-thm.met 𝓤 H 𝓜 𝓖 𝓡)))
+    (cited 𝓤 H (Play 𝓤 H (𝓖 .A) (𝓜 .mem) (𝓡 .run)) 𝓜 𝓡 code.env #turns·playing·play play-def.routine code.calls-turns·playing·play (play-thm.met 𝓤 H 𝓜 𝓖 𝓡)))

@@ -28,7 +28,7 @@ use Rattle.method.proofs.Line as Ln
 use Rattle.method.proofs.Row as Rw
 use Rattle.method.proofs.Run as Rn
 use Rattle.method.proofs.Run.Laws as Rn′
-use Rattle.board.proofs.Within.{Within, within-in, within-item}
+use Rattle.turns.proofs.Within.{Within, within-in, within-item}
 
 abbrev pub withBoard : Run → List Level → Run
 withBoard run b = record { stations = run .stations; depth = run .depth; board = b; lines = run .lines; rows = run .rows }

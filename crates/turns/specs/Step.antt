@@ -7,10 +7,8 @@ use Rattle.method.specs.declared.Run.{Run}
 use Rattle.method.specs.declared.Turned.{Turned}
 use Rattle.method.specs.Board.{rowOf}
 use Rattle.method.specs.Turn.{turn, turned}
+use Rattle.board.specs.Moves.{countEnd}
 
--- a count is two bytes wide on the record; no turn is made for a station whose count is at its end
-abbrev pub countEnd : ℕ
-countEnd = 65535
-
+-- no turn is made for a station whose count is at its end
 unfoldable pub stepOf : Run → ℕ → Turned
 stepOf run i = cond (ltb (rowOf run i .count) countEnd) (turn run i) (turned run Nobody)

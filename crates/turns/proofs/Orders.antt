@@ -20,10 +20,11 @@ use Rattle.method.specs.Board.{notBegun, rowOf, lineOf}
 use Rattle.method.specs.Steps.{nextOp}
 use Rattle.method.specs.Turn.{turned, readLine, perform, named, turn}
 use Rattle.method.specs.Demand.{isSettled}
-use Rattle.board.specs.Step.{countEnd, stepOf}
+use Rattle.board.specs.Moves.{countEnd}
+use Rattle.turns.specs.Step.{stepOf}
 use Rattle.board.specs.Places.{seatAt}
 use Rattle.board.proofs.Placing.{seat-own}
-use Rattle.board.specs.Playing.{stepped, firstFrom, isUnwritten, unwrittenStep, stopsAt, playedOf}
+use Rattle.turns.specs.Playing.{stepped, firstFrom, isUnwritten, unwrittenStep, stopsAt, playedOf}
 
 module _ (test : ℕ → Bool) where
   here : (t left : ℕ) → test t ≡ true → firstFrom test t (suc left) ≡ t

@@ -19,8 +19,8 @@ use Rattle.method.proofs.Level as Lv
 use Rattle.method.proofs.Level.Laws as Lv′
 use Rattle.method.proofs.Run as Rn
 use Rattle.method.proofs.Run.Laws as Rn′
-use Rattle.board.proofs.Record.{levelAt}
-use Rattle.board.proofs.Stepping.{Shaped}
+use Rattle.turns.proofs.Record.{levelAt}
+use Rattle.turns.proofs.Stepping.{Shaped}
 
 -- of each of a list, so of the one at an index
 one-of : (R : RattleType) (xs : List (R .Denot)) (us : List Val) → shadow (each (R .Denot) (R .own) xs us) → (i : ℕ) (d : R .Denot) → i < length xs → (u : Val) × Is R (getD xs i d) (u ∷ [])

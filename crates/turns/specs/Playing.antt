@@ -6,8 +6,8 @@ use lib.ListN.{length, getD}
 use Rattle.method.specs.declared.Did.{Did}
 use Rattle.method.specs.declared.Did.the-variants.{Operation, Idle, Unwritten, Nobody}
 use Rattle.method.specs.declared.Run.{Run}
-use Rattle.board.specs.declared.playing.Played.{Played}
-use Rattle.board.specs.Step.{stepOf}
+use Rattle.turns.specs.declared.playing.Played.{Played}
+use Rattle.turns.specs.Step.{stepOf}
 
 -- the record after the first t turns
 unfoldable pub stepped : Run → List ℕ → ℕ → Run

@@ -1,8 +1,9 @@
 // An order of turns on the run record.
 ghost use mathlib.Core.Path.{_≡_};
-ghost use Rattle.board.specs.Playing.{isUnwritten, stepped, stopsAt, playedOf};
-use super::places;
+ghost use Rattle.turns.specs.Playing.{isUnwritten, stepped, stopsAt, playedOf};
 use super::turning;
+use board::places;
+use board::rows;
 use method::Did;
 use method::Run;
 
@@ -34,7 +35,7 @@ pub fn play(run: &mut Run, turns: &[u8]) -> usize
         // The turn of a settled station is idle, and most turns of a long order are: its row alone tells, and nothing is written back.
         let at = places::seat_of(i);
         let row = run.rows[at];
-        if !turning::is_settled(row) {
+        if !rows::is_settled(row) {
             if is_unwritten(turning::step(run, i)) {
                 return t;
             }

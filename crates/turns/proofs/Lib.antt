@@ -1,0 +1,9 @@
+-- Laws for the proofs of this crate.
+mod Within
+mod Values
+mod Record
+mod Calling
+mod Seating
+mod Stepping
+mod Shape
+pub mod Orders
