@@ -13,7 +13,7 @@ use Rattle.method.specs.Board.{depthFrom, depth, fresh, freshOn, rowOf, lineOf,
 use Rattle.method.specs.Steps.{gather, climb, writing, pending, reach, again, roundOver, readOther, readOwn, absorbOwn, absorbOther, nextOp, absorb}
 use Rattle.method.specs.Turn.{goesOn, perform, named, turn, after}
 use Rattle.method.specs.Demand.{didOf, idleTurns, mostOperations}
-use Rattle.board.specs.Playing.{firstFrom}
+use Rattle.turns.specs.Playing.{firstFrom}
 use Rattle.run.specs.Bytes.{bytesOf, numberIn, inputsIn}
 use Rattle.run.specs.Answer.{rowBytes, answerBytes}
 use Rattle.run.specs.Call.{firstBad, tests, firstUnwritten, verdictOf, returned, answered}

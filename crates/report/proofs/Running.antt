@@ -14,8 +14,8 @@ use Rattle.method.specs.Board.{levels, registers, fresh}
 use Rattle.method.specs.Turn.{turn, after}
 use Rattle.method.specs.Demand.{Fits, Station, didOf, idleTurns, countsOf}
 use Rattle.method.proofs.Demand3.{fits-board, counts-add-up, never-unwritten}
-use Rattle.board.specs.declared.playing.Played.{Played}
-use Rattle.board.specs.Playing.{stepped, firstFrom, isUnwritten, stopsAt, playedOf}
+use Rattle.turns.specs.declared.playing.Played.{Played}
+use Rattle.turns.specs.Playing.{stepped, firstFrom, isUnwritten, stopsAt, playedOf}
 use Rattle.run.specs.Call.{isBad, firstBad, readsUnwritten, firstUnwritten}
 use Rattle.run.proofs.Agree.{stepped-after, stops-first}
 use Rattle.plan.proofs.Taken.{TurnsFine}

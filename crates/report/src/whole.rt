@@ -26,7 +26,7 @@ fn put_report(
     ensures { λ r. ⌜ Put (now (page .entry)) 0 (report n sets (codesFrom (now (cells .entry)) (now (lens .entry)) 0 stocks) (now (turns .entry))) (now (page .exit)) r ⌝ }
 {
     let stations = n as usize;
-    let played = board::playing::play_out(board::start::fresh(n, sets), turns);
+    let played = turns::playing::play_out(board::start::fresh(n, sets), turns);
     let run = played.run;
     let rows = run.rows;
     let idle = turns.len() - counted(stations, rows);

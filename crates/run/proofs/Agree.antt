@@ -15,9 +15,10 @@ use Rattle.method.specs.Board.{levels, registers, fresh, freshOn, rowOf}
 use Rattle.method.specs.Turn.{turn, after}
 use Rattle.method.specs.Demand.{Fits, Station}
 use Rattle.method.proofs.Demand3.{count-within, fits-board}
-use Rattle.board.specs.declared.playing.Played.{Played}
-use Rattle.board.specs.Step.{stepOf, countEnd}
-use Rattle.board.specs.Playing.{stepped, firstFrom, unwrittenStep, stopsAt, playedOf}
+use Rattle.turns.specs.declared.playing.Played.{Played}
+use Rattle.board.specs.Moves.{countEnd}
+use Rattle.turns.specs.Step.{stepOf}
+use Rattle.turns.specs.Playing.{stepped, firstFrom, unwrittenStep, stopsAt, playedOf}
 use Rattle.run.specs.declared.verdict.Verdict.{Verdict}
 use Rattle.run.specs.declared.verdict.Verdict.the-variants.{Accepted, NoStations, WrongInputs, TooManyTurns, BadTurn, ShortAnswer, UnwrittenLine}
 use Rattle.run.specs.Bytes.{inputsIn}

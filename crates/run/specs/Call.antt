@@ -11,7 +11,7 @@ use Rattle.method.specs.Board.{registers, fresh}
 use Rattle.method.specs.Turn.{after, turn}
 use Rattle.run.specs.declared.verdict.Verdict.{Verdict}
 use Rattle.run.specs.declared.verdict.Verdict.the-variants.{Accepted, NoStations, WrongInputs, TooManyTurns, BadTurn, ShortAnswer, UnwrittenLine}
-use Rattle.board.specs.Playing.{firstFrom, isUnwritten}
+use Rattle.turns.specs.Playing.{firstFrom, isUnwritten}
 use Rattle.run.specs.Bytes.{inputsIn}
 use Rattle.run.specs.Answer.{answerBytes}
 

@@ -17,7 +17,7 @@ fn carried_out(n: u64, inputs: &[u8], turns: &[u8], answer: &mut [u8]) -> Verdic
 {
     let stations = n as usize;
     let start = board::start::fresh(n as u8, words::inputs_of(stations, inputs));
-    let out = board::playing::play_out(start, turns);
+    let out = turns::playing::play_out(start, turns);
     let at = out.at;
     if at < turns.len() {
         return Verdict::UnwrittenLine { at: at as u16 };

@@ -4,7 +4,7 @@ use native.Mathlib.Omega.{arith}
 use lib.ListN.{length}
 use Rattle.run.proofs.Judging.{bad-zero, bad-high, good-turn}
 use Rattle.run.specs.Call.{isBad, firstBad}
-use Rattle.board.proofs.Orders.{Passed, passed-none, passed-more, passed-stop, passed-all}
+use Rattle.turns.proofs.Orders.{Passed, passed-none, passed-more, passed-stop, passed-all}
 use Rattle.run.proofs.tests.first_bad.Statement.{statement}
 use Rattle.run.proofs.tests.first_bad.Tie as tie
 
