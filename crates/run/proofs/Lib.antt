@@ -1,5 +1,6 @@
 -- Laws for the proofs of this crate.
 mod Little
+mod Showing
 mod Laid
 mod Judging
 pub mod Agree
