@@ -25,15 +25,6 @@ numberOf (BadTurn at) = 4 + 100 * at
 numberOf ShortAnswer = 5
 numberOf (UnwrittenLine at) = 6 + 100 * at
 
-abbrev pub isAccepted : Verdict → Bool
-isAccepted Accepted = true
-isAccepted NoStations = false
-isAccepted WrongInputs = false
-isAccepted TooManyTurns = false
-isAccepted (BadTurn at) = false
-isAccepted ShortAnswer = false
-isAccepted (UnwrittenLine at) = false
-
 -- "a turn is 0 or above n": the first such turn, counted from 0
 abbrev pub isBad : ℕ → List ℕ → ℕ → Bool
 isBad n turns t = not (leb 1 (getD turns t 0) && leb (getD turns t 0) n)
