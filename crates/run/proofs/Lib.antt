@@ -1,7 +1,7 @@
 -- Laws for the proofs of this crate.
 mod Little
 mod Showing
-mod Laid
+pub mod Laid
 mod Judging
 pub mod Agree
 pub mod Demands

@@ -2,7 +2,7 @@
 ghost use mathlib.Core.Path.{_≡_};
 ghost use lib.ListN.{length};
 ghost use Rattle.run.specs.declared.verdict.Verdict.the-variants.{Accepted};
-ghost use Rattle.run.specs.Call.{tests, begun, playedOut, answerFor, returned, answered, Called};
+ghost use Rattle.run.specs.Call.{tests, returned, answered, Called};
 use super::tests::tested;
 use super::told;
 use super::verdict::Verdict;
