@@ -2,18 +2,12 @@
 use Prim.Native.Nat.{ℕ, suc, _+_, _-_, _≤_, _<_}
 use mathlib.Core.Path.{_≡_, refl, sym, ap, _∙_}
 use mathlib.Core.List.{List, [], _∷_, _++_, append-assoc, append-nil}
-use native.Mathlib.Nat.{add-zero}
 use native.Mathlib.Numerals.{add-one}
 use native.Mathlib.Omega.{arith}
 use lib.ListN.{length, getD, take, set, length-append}
 use lib.Seq.{sets, set-comm, take-suc, length-take-le, take-length}
+use Rattle.run.proofs.Laid.{sets-append}
 use Rattle.report.specs.Put.{Put}
-
-pub sets-append : (l : List ℕ) (i : ℕ) (xs ys : List ℕ) → sets l i (xs ++ ys) ≡ sets (sets l i xs) (i + length xs) ys
-sets-append l i [] ys = rw add-zero
-sets-append l i (x ∷ xs) ys =
-    let e : suc i + length xs ≡ i + suc (length xs) = omega arith in
-    rw (← e) (sets-append (set l i x) (suc i) xs ys)
 
 -- a byte in front of those that stand already
 pub sets-front : (l : List ℕ) (i j : ℕ) (d : ℕ) (vs : List ℕ) → i < j → set (sets l j vs) i d ≡ sets (set l i d) j vs

@@ -7,7 +7,8 @@ use Rattle.method.specs.declared.State.{State}
 use Rattle.method.specs.declared.State.the-variants.{NotBegun, Uniting, Gathering, Settled}
 use Rattle.method.specs.declared.Row.{Row}
 use Rattle.method.specs.Demand.{isSettled}
-use Rattle.run.specs.Answer.{stateNumber, stationsShown, stocksShown}
+use Rattle.run.specs.declared.shown.Shown.{Shown}
+use Rattle.run.specs.Answer.{shownOf}
 use Rattle.plan.specs.Text.{LF, tab}
 use Rattle.report.specs.Digits.{decimal}
 use Rattle.report.specs.Lines.{RUN, STOCK, ST, NO, line, refusalLine, runLine, stockLine, setShown, stationLine}
@@ -29,20 +30,19 @@ pub stock-put : (page a b c last code : List ℕ) (at p q r s k : ℕ) → Put p
 unfolding stockLine line
 stock-put page a b c last code at p q r s k f g h i = put-same (simp append-assoc) (put-then (put-then (put-then f g) h) i)
 
-settled-two : (s : State) → eqb (stateNumber s) 2 ≡ isSettled s
+settled-two : (s : State) → eqb (shownOf s .number) 2 ≡ isSettled s
 settled-two (NotBegun stocks) = refl
 settled-two (Uniting k own other side round) = refl
 settled-two (Gathering S j got) = refl
 settled-two (Settled S got) = refl
 
-pub station-put : (page a b c d e last : List ℕ) (at p q r s t u i number stations stocks : ℕ) (row : Row) → number ≡ stateNumber (row .state) → stations ≡ stationsShown (row .state) → stocks ≡ stocksShown (row .state)
-    → Put page at (ST ++ tab ∷ []) a p → Put a p (decimal i ++ tab ∷ []) b q → Put b q (decimal number ++ tab ∷ []) c r → Put c r (decimal (row .count) ++ tab ∷ []) d s
-    → Put d s (setShown (eqb number 2) 4 stations ++ tab ∷ []) e t → Put e t (setShown (eqb number 2) 16 stocks ++ LF ∷ []) last u
+pub station-put : (page a b c d e last : List ℕ) (at p q r s t u i : ℕ) (row : Row) (told : Shown) → told ≡ shownOf (row .state)
+    → Put page at (ST ++ tab ∷ []) a p → Put a p (decimal i ++ tab ∷ []) b q → Put b q (decimal (told .number) ++ tab ∷ []) c r → Put c r (decimal (row .count) ++ tab ∷ []) d s
+    → Put d s (setShown (eqb (told .number) 2) 4 (told .stations) ++ tab ∷ []) e t → Put e t (setShown (eqb (told .number) 2) 16 (told .stocks) ++ LF ∷ []) last u
     → Put page at (stationLine i row) last u
 unfolding stationLine line
-station-put page a b c d e last at p q r s t u i number stations stocks row x y z f g h j k l =
-    let two : eqb number 2 ≡ isSettled (row .state) = ap (λ (m : ℕ). eqb m 2) x ∙ settled-two (row .state) in
-    let h′ : Put b q (decimal (stateNumber (row .state)) ++ tab ∷ []) c r = rw (← x) h in
-    let k′ : Put d s (setShown (isSettled (row .state)) 4 (stationsShown (row .state)) ++ tab ∷ []) e t = rw (← two, ← y) k in
-    let l′ : Put e t (setShown (isSettled (row .state)) 16 (stocksShown (row .state)) ++ LF ∷ []) last u = rw (← two, ← z) l in
-    put-same (simp append-assoc) (put-then (put-then (put-then (put-then (put-then f g) h′) j) k′) l′)
+station-put page a b c d e last at p q r s t u i row told x f g h j k l =
+    let two : eqb (told .number) 2 ≡ isSettled (row .state) = ap (λ (m : Shown). eqb (m .number) 2) x ∙ settled-two (row .state) in
+    let k′ : Put d s (setShown (isSettled (row .state)) 4 (told .stations) ++ tab ∷ []) e t = rw (← two) k in
+    let l′ : Put e t (setShown (isSettled (row .state)) 16 (told .stocks) ++ LF ∷ []) last u = rw (← two) l in
+    rw (← x) (put-same (simp append-assoc) (put-then (put-then (put-then (put-then (put-then f g) h) j) k′) l′))

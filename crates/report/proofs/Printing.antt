@@ -169,18 +169,18 @@ module _ {text : List ℕ} {n stocks turned : ℕ} {sets cells lens turns : List
 
 -- ---- what stands in the page is handed out
 
-module _ (text : List ℕ) {page last : List ℕ} {end : ℕ} {line : List ℕ} (put : Put page 0 line last end) (is : line ≡ printed text) (long : length page ≡ mostPrinted) where
-  front : last ≡ line ++ drop (length line) page
-  front = put-front put (let m = printed-most text in let e = ap length is in omega arith)
+module _ (text : List ℕ) {page last : List ℕ} {end : ℕ} (put : Put page 0 (printed text) last end) (long : length page ≡ mostPrinted) where
+  front : last ≡ printed text ++ drop (length (printed text)) page
+  front = put-front put (let m = printed-most text in omega arith)
 
-  end-is : end ≡ length line
+  end-is : end ≡ length (printed text)
   end-is = let m = put .moved in omega arith
 
   pub whole-text : take end last ≡ printed text
-  whole-text = ap (take end) front ∙ take-at line (drop (length line) page) end (sym end-is) ∙ is
+  whole-text = ap (take end) front ∙ take-at (printed text) (drop (length (printed text)) page) end (sym end-is)
 
   pub end-within : end ≤ length last
-  end-within = let m = printed-most text in let e = ap length is in let k = end-is in let l = ap length (put .laid) ∙ length-sets page 0 line in omega arith
+  end-within = let m = printed-most text in let k = end-is in let l = ap length (put .laid) ∙ length-sets page 0 (printed text) in omega arith
 
   pub end-long : end ≡ length (take end last)
   end-long = sym (length-take-le end last end-within)

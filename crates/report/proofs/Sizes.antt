@@ -17,7 +17,7 @@ use Rattle.method.specs.Turn.{after}
 use Rattle.method.specs.Demand.{Fits, isSettled, idleTurns}
 use Rattle.method.proofs.Demand3.{fits-board, counts-add-up, count-within}
 use Rattle.report.proofs.Running.{all-stations}
-use Rattle.run.specs.Answer.{stateNumber, stationsShown, stocksShown}
+use Rattle.run.specs.Answer.{shownOf}
 use Rattle.plan.specs.Limits.{mostCode}
 use Rattle.plan.specs.Text.{LF, tab}
 use Rattle.plan.specs.declared.Fault.{Fault}
@@ -38,7 +38,7 @@ set-most : (t : Bool) (w s : ℕ) → 1 ≤ w → length (setShown t w s) ≤ w
 set-most true w s h = rw (digits-length 16 w s) (omega arith)
 set-most false w s h = h
 
-state-most : (s : State) → stateNumber s < 100000
+state-most : (s : State) → shownOf s .number < 100000
 state-most (NotBegun stocks) = omega arith
 state-most (Uniting k own other side round) = omega arith
 state-most (Gathering S j got) = omega arith
@@ -90,15 +90,15 @@ stock-most k code h l =
 station-most : (i : ℕ) (row : Row) → i < 100000 → row .count < 100000 → length (stationLine i row) ≤ mostStation
 unfolding stationLine
 station-most i row h k =
-    let state = decimal (stateNumber (row .state)) in
+    let state = decimal (shownOf (row .state) .number) in
     let count = decimal (row .count) in
-    let stations = setShown (isSettled (row .state)) 4 (stationsShown (row .state)) in
-    let stocks = setShown (isSettled (row .state)) 16 (stocksShown (row .state)) in
+    let stations = setShown (isSettled (row .state)) 4 (shownOf (row .state) .stations) in
+    let stocks = setShown (isSettled (row .state)) 16 (shownOf (row .state) .stocks) in
     let a = decimal-most i h in
-    let b = decimal-most (stateNumber (row .state)) (state-most (row .state)) in
+    let b = decimal-most (shownOf (row .state) .number) (state-most (row .state)) in
     let c = decimal-most (row .count) k in
-    let d = set-most (isSettled (row .state)) 4 (stationsShown (row .state)) (omega arith) in
-    let e = set-most (isSettled (row .state)) 16 (stocksShown (row .state)) (omega arith) in
+    let d = set-most (isSettled (row .state)) 4 (shownOf (row .state) .stations) (omega arith) in
+    let e = set-most (isSettled (row .state)) 16 (shownOf (row .state) .stocks) (omega arith) in
     rw (
       line-more ST (decimal i) (state ∷ count ∷ stations ∷ stocks ∷ []),
       line-more (decimal i) state (count ∷ stations ∷ stocks ∷ []),

@@ -4,7 +4,7 @@ use mathlib.Core.Bool.{Bool, true, false}
 use mathlib.Core.List.{List, [], _∷_, _++_}
 use Rattle.method.specs.declared.Row.{Row}
 use Rattle.method.specs.Demand.{isSettled}
-use Rattle.run.specs.Answer.{stateNumber, stationsShown, stocksShown}
+use Rattle.run.specs.Answer.{shownOf}
 use Rattle.plan.specs.Text.{LF, tab}
 use Rattle.report.specs.Digits.{decimal, hex}
 
@@ -52,10 +52,10 @@ stationLine i row =
     line
     (ST
     ∷ decimal i
-    ∷ decimal (stateNumber (row .state))
+    ∷ decimal (shownOf (row .state) .number)
     ∷ decimal (row .count)
-    ∷ setShown (isSettled (row .state)) 4 (stationsShown (row .state))
-    ∷ setShown (isSettled (row .state)) 16 (stocksShown (row .state))
+    ∷ setShown (isSettled (row .state)) 4 (shownOf (row .state) .stations)
+    ∷ setShown (isSettled (row .state)) 16 (shownOf (row .state) .stocks)
     ∷ [])
 
 -- the longest lines: no number has more than five digits, and no code more than 12 bytes

@@ -51,13 +51,12 @@ pub fn put_station(page: &mut [u8], at: usize, i: u16, row: Row) -> usize
     ensures { λ r. ⌜ r ≤ at + mostStation ⌝ }
 {
     let state = row.state;
-    let number = run::shown::state_number(state);
-    let stations = run::shown::stations_shown(state);
-    let stocks = run::shown::stocks_shown(state);
+    let told = run::shown::shown_of(state);
+    let settled = told.number == 2;
     let a = put_bytes(page, at, b"ST\t");
     let b = put_number(page, a, i, b'\t');
-    let c = put_number(page, b, number as u16, b'\t');
+    let c = put_number(page, b, told.number as u16, b'\t');
     let d = put_number(page, c, row.count, b'\t');
-    let e = put_set(page, d, number == 2, 4, stations, b'\t');
-    put_set(page, e, number == 2, 16, stocks, b'\n')
+    let e = put_set(page, d, settled, 4, told.stations, b'\t');
+    put_set(page, e, settled, 16, told.stocks, b'\n')
 }

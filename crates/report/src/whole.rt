@@ -1,7 +1,7 @@
 // From a plan's text to the printed text.
 ghost use mathlib.Core.Path.{_≡_};
 ghost use lib.ListN.{length};
-ghost use Rattle.report.specs.Printed.{report, printed, answerOf, bufferOf};
+ghost use Rattle.report.specs.Printed.{report, printed, mostPrinted, answerOf, bufferOf};
 ghost use Rattle.report.specs.Put.{Put, Ready, codesFrom};
 use super::Printed;
 use super::fields::put_bytes;
@@ -35,6 +35,28 @@ fn put_report(
     put_stations(page, b, stations, rows)
 }
 
+// The text that is printed of a plan's text, put into the page.
+fn put_printed(text: &[u8], page: &mut [u8]) -> usize
+    requires { ⌜ length (now page) ≡ mostPrinted ⌝ }
+    ensures { λ r. ⌜ Put (now (page .entry)) 0 (printed (now (text .entry))) (now (page .exit)) r ⌝ }
+{
+    let mut sets = [0u64; 16];
+    let mut cells = [0u8; 768];
+    let mut lens = [0usize; 64];
+    let mut turns = [0u8; 4096];
+    let answer = plan::read_plan(text, &mut sets, &mut cells, &mut lens, &mut turns);
+    match answer {
+        Answer::Plan {
+            stations: n,
+            stocks: s,
+            turns: t,
+        } => put_report(page, n, sets, s, &cells, &lens, &turns[..t]),
+        Answer::Refused { fault, place } => {
+            put_refusal(page, plan::number_of(fault) as u16, place as u16)
+        }
+    }
+}
+
 // A text is handed out whole, or not at all.
 fn hand_out(text: &[u8], out: &mut [u8]) -> Printed
     ensures { λ r. ⌜ r ≡ answerOf (now (text .entry)) (length (now (out .entry))) ⌝ }
@@ -52,24 +74,7 @@ pub fn print_plan(text: &[u8], out: &mut [u8]) -> Printed
     ensures { λ r. ⌜ r ≡ answerOf (printed (now (text .entry))) (length (now (out .entry))) ⌝ }
     ensures { λ r. ⌜ now (out .exit) ≡ bufferOf (printed (now (text .entry))) (now (out .entry)) ⌝ }
 {
-    let mut sets = [0u64; 16];
-    let mut cells = [0u8; 768];
-    let mut lens = [0usize; 64];
-    let mut turns = [0u8; 4096];
     let mut page = [0u8; 2310];
-    let answer = plan::read_plan(text, &mut sets, &mut cells, &mut lens, &mut turns);
-    match answer {
-        Answer::Plan {
-            stations: n,
-            stocks: s,
-            turns: t,
-        } => {
-            let end = put_report(&mut page, n, sets, s, &cells, &lens, &turns[..t]);
-            hand_out(&page[..end], out)
-        }
-        Answer::Refused { fault, place } => {
-            let end = put_refusal(&mut page, plan::number_of(fault) as u16, place as u16);
-            hand_out(&page[..end], out)
-        }
-    }
+    let end = put_printed(text, &mut page);
+    hand_out(&page[..end], out)
 }

@@ -23,7 +23,7 @@ use Rattle.run.specs.declared.verdict.Verdict.{Verdict}
 use Rattle.run.specs.declared.verdict.Verdict.the-variants.{Accepted, NoStations, WrongInputs, TooManyTurns, BadTurn, ShortAnswer, UnwrittenLine}
 use Rattle.run.specs.Bytes.{inputsIn}
 use Rattle.run.specs.Answer.{answerBytes}
-use Rattle.run.specs.Call.{numberOf, isAccepted, isBad, firstBad, tests, readsUnwritten, firstUnwritten, begun, playedOut, verdictOf, answerFor, returned, answered, Called}
+use Rattle.run.specs.Call.{numberOf, isBad, firstBad, tests, readsUnwritten, firstUnwritten, begun, playedOut, verdictOf, answerFor, returned, answered, Called}
 use Rattle.run.proofs.Judging.{Taken, taken}
 use Rattle.run.proofs.Little.{inputs-length}
 
@@ -144,17 +144,21 @@ played-begun n inputs turns stocks start out p q r = rw (← p, ← q) r
 
 -- ---- a call that did not pass them
 
-pub is-accepted : (v : Verdict) → isAccepted v ≡ true → v ≡ Accepted
-is-accepted Accepted e = refl
-is-accepted NoStations e = absurd (false≢true e)
-is-accepted WrongInputs e = absurd (false≢true e)
-is-accepted TooManyTurns e = absurd (false≢true e)
-is-accepted (BadTurn at) e = absurd (false≢true e)
-is-accepted ShortAnswer e = absurd (false≢true e)
-is-accepted (UnwrittenLine at) e = absurd (false≢true e)
+-- the number of a refusal is none
+pub accepted-none : (v : Verdict) → numberOf v ≡ 0 → v ≡ Accepted
+accepted-none Accepted e = refl
+accepted-none NoStations e = absurd (omega arith)
+accepted-none WrongInputs e = absurd (omega arith)
+accepted-none TooManyTurns e = absurd (omega arith)
+accepted-none (BadTurn at) e = absurd (omega arith)
+accepted-none ShortAnswer e = absurd (omega arith)
+accepted-none (UnwrittenLine at) e = absurd (omega arith)
 
-stays : (run : Run) (turns : List ℕ) (v : Verdict) → isAccepted v ≡ false → playedOut run turns v ≡ v
-stays run turns Accepted e = absurd (false≢true (sym e))
+pub passes : {v w : Verdict} {r : ℕ} → v ≡ w → r ≡ numberOf v → r ≡ 0 → w ≡ Accepted
+passes {v} e f z = sym e ∙ accepted-none v (sym f ∙ z)
+
+stays : (run : Run) (turns : List ℕ) (v : Verdict) → (numberOf v ≡ 0 → ⊥) → playedOut run turns v ≡ v
+stays run turns Accepted e = absurd (e refl)
 stays run turns NoStations e = refl
 stays run turns WrongInputs e = refl
 stays run turns TooManyTurns e = refl
@@ -162,8 +166,8 @@ stays run turns (BadTurn at) e = refl
 stays run turns ShortAnswer e = refl
 stays run turns (UnwrittenLine at) e = refl
 
-untouched : (n : ℕ) (inputs turns answer : List ℕ) (v : Verdict) → isAccepted v ≡ false → answerFor n inputs turns answer v ≡ answer
-untouched n inputs turns answer Accepted e = absurd (false≢true (sym e))
+untouched : (n : ℕ) (inputs turns answer : List ℕ) (v : Verdict) → (numberOf v ≡ 0 → ⊥) → answerFor n inputs turns answer v ≡ answer
+untouched n inputs turns answer Accepted e = absurd (e refl)
 untouched n inputs turns answer NoStations e = refl
 untouched n inputs turns answer WrongInputs e = refl
 untouched n inputs turns answer TooManyTurns e = refl
@@ -171,9 +175,10 @@ untouched n inputs turns answer (BadTurn at) e = refl
 untouched n inputs turns answer ShortAnswer e = refl
 untouched n inputs turns answer (UnwrittenLine at) e = refl
 
-pub refused-call : (n : ℕ) (inputs turns answer : List ℕ) (v : Verdict) (r : ℕ) → v ≡ tests n (length inputs) turns (length answer) → isAccepted v ≡ false → r ≡ numberOf v
+pub refused-call : (n : ℕ) (inputs turns answer : List ℕ) (v : Verdict) (r : ℕ) → v ≡ tests n (length inputs) turns (length answer) → r ≡ numberOf v → (r ≡ 0 → ⊥)
     → (r ≡ returned n inputs turns answer) × (answer ≡ answered n inputs turns answer)
 unfolding verdictOf
-refused-call n inputs turns answer v r e f g =
-    let same : verdictOf n inputs turns answer ≡ v = ap (playedOut (begun n inputs) turns) (sym e) ∙ stays (begun n inputs) turns v f in
-    (g ∙ ap numberOf (sym same), sym (ap (answerFor n inputs turns answer) same ∙ untouched n inputs turns answer v f))
+refused-call n inputs turns answer v r e g f =
+    let none : numberOf v ≡ 0 → ⊥ = λ z. f (g ∙ z) in
+    let same : verdictOf n inputs turns answer ≡ v = ap (playedOut (begun n inputs) turns) (sym e) ∙ stays (begun n inputs) turns v none in
+    (g ∙ ap numberOf (sym same), sym (ap (answerFor n inputs turns answer) same ∙ untouched n inputs turns answer v none))

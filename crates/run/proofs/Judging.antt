@@ -1,6 +1,6 @@
 -- The refusals before the first turn, by their tests, and what a call that passes them has.
 use Prim.Native.Nat.{ℕ, _+_, _*_, _≤_, _<_}
-use mathlib.Core.Path.{_≡_, refl, sym, ap, _∙_}
+use mathlib.Core.Path.{_≡_, refl, ap}
 use mathlib.Core.Bool.{Bool, true, false, cond, not, _&&_, and-false, false≢true}
 use mathlib.Core.List.{List}
 use native.Mathlib.Omega.{arith}
@@ -9,7 +9,7 @@ use lib.Dec.{leb}
 use lib.ListN.{length, getD}
 use Rattle.run.specs.declared.verdict.Verdict.{Verdict}
 use Rattle.run.specs.declared.verdict.Verdict.the-variants.{Accepted, NoStations, WrongInputs, TooManyTurns, BadTurn, ShortAnswer, UnwrittenLine}
-use Rattle.run.specs.Call.{numberOf, isAccepted, isBad, firstBad, tests}
+use Rattle.run.specs.Call.{numberOf, isBad, firstBad, tests}
 
 -- ---- the number of a refusal with a place
 
@@ -75,16 +75,16 @@ pub record Taken (n inputs : ℕ) (turns : List ℕ) (size : ℕ) : Type 0 where
   pub wide : 20 * n ≤ size
 
 -- a refusal is not Accepted
-refused : (v : Verdict) → isAccepted v ≡ false → v ≡ Accepted → ⊥
-refused v f e = let z : false ≡ true = sym f ∙ ap isAccepted e in false≢true z
+refused : (v : Verdict) → 1 ≤ numberOf v → v ≡ Accepted → ⊥
+refused v f e = let z : numberOf v ≡ 0 = ap numberOf e in omega arith
 
-passes : (b : Bool) (x y : Verdict) → isAccepted y ≡ false → cond b x y ≡ Accepted → (b ≡ true) × (x ≡ Accepted)
-passes true x y f e = (refl, e)
-passes false x y f e = absurd (refused y f e)
+passes : (b : Bool) (x y : Verdict) → cond b x y ≡ Accepted → 1 ≤ numberOf y → (b ≡ true) × (x ≡ Accepted)
+passes true x y e f = (refl, e)
+passes false x y e f = absurd (refused y f e)
 
-spared : (b : Bool) (x y : Verdict) → isAccepted x ≡ false → cond b x y ≡ Accepted → (b ≡ false) × (y ≡ Accepted)
-spared true x y f e = absurd (refused x f e)
-spared false x y f e = (refl, e)
+spared : (b : Bool) (x y : Verdict) → cond b x y ≡ Accepted → 1 ≤ numberOf x → (b ≡ false) × (y ≡ Accepted)
+spared true x y e f = absurd (refused x f e)
+spared false x y e f = (refl, e)
 
 both : (a b : Bool) → (a && b) ≡ true → (a ≡ true) × (b ≡ true)
 both true b e = (refl, e)
@@ -93,11 +93,11 @@ both false b e = absurd (false≢true e)
 pub taken : (n inputs : ℕ) (turns : List ℕ) (size : ℕ) → tests n inputs turns size ≡ Accepted → Taken n inputs turns size
 unfolding tests
 taken n inputs turns size e =
-    let one = passes _ _ _ refl e in
-    let two = passes _ _ _ refl (one .1) in
-    let three = passes _ _ _ refl (two .1) in
-    let four = spared _ _ _ refl (three .1) in
-    let five = passes _ _ _ refl (four .1) in
+    let one = passes _ _ NoStations e (omega arith) in
+    let two = passes _ _ WrongInputs (one .1) (omega arith) in
+    let three = passes _ _ TooManyTurns (two .1) (omega arith) in
+    let four = spared _ (BadTurn (firstBad n turns)) _ (three .1) (omega arith) in
+    let five = passes _ _ ShortAnswer (four .1) (omega arith) in
     let count = both _ _ (one .0) in
     record {
       low = leb-true _ _ (count .0);

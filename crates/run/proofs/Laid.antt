@@ -1,5 +1,5 @@
 -- The answer bytes laid into a buffer, row after row.
-use Prim.Native.Nat.{ℕ, zero, suc, _+_, _*_, _/_, _%_, _≤_, _<_}
+use Prim.Native.Nat.{ℕ, zero, suc, _+_, _*_, _≤_, _<_}
 use mathlib.Core.Path.{_≡_, refl, sym, ap, _∙_}
 use mathlib.Core.List.{List, [], _∷_, _++_, append-assoc, append-nil}
 use native.Mathlib.Nat.{add-zero}
@@ -9,44 +9,32 @@ use lib.ListN.{length, getD, drop, set, length-append, length-drop}
 use lib.Seq.{sets, sets-eq, take-at, drop-append-add, drop-drop}
 use Rattle.method.specs.declared.Row.{Row}
 use Rattle.run.specs.Bytes.{bytesOf}
-use Rattle.run.specs.Answer.{stateNumber, stationsShown, stocksShown, rowBytes, answerBytes}
+use Rattle.run.specs.declared.shown.Shown.{Shown}
+use Rattle.run.specs.Answer.{shownOf, rowBytes, answerBytes}
 
 -- stores of two lists, one behind the other
-sets-append : (l : List ℕ) (i : ℕ) (xs ys : List ℕ) → sets l i (xs ++ ys) ≡ sets (sets l i xs) (i + length xs) ys
+pub sets-append : (l : List ℕ) (i : ℕ) (xs ys : List ℕ) → sets l i (xs ++ ys) ≡ sets (sets l i xs) (i + length xs) ys
 sets-append l i [] ys = rw add-zero
 sets-append l i (x ∷ xs) ys =
     let e : suc i + length xs ≡ i + suc (length xs) = omega arith in
     rw (← e) (sets-append (set l i x) (suc i) xs ys)
 
-pub bytes-length : (w x : ℕ) → length (bytesOf w x) ≡ w
-unfolding bytesOf
-bytes-length zero x = refl
-bytes-length (suc w) x = ap suc (bytes-length w (x / 256))
-
 pub row-length : (r : Row) → length (rowBytes r) ≡ 20
 unfolding rowBytes bytesOf
 row-length r = refl
 
--- eight stores are a word's bytes
-pub word-laid : (l : List ℕ) (at x : ℕ) →
-    set (set (set (set (set (set (set (set l at (x % 256)) (at + 1) (x / 256 % 256)) (at + 2) (x / 256 / 256 % 256)) (at + 3) (x / 256 / 256 / 256 % 256)) (at + 4) (x / 256 / 256 / 256 / 256 % 256)) (at + 5) (x / 256 / 256 / 256 / 256 / 256 % 256)) (at + 6) (x / 256 / 256 / 256 / 256 / 256 / 256 % 256)) (at + 7) (x / 256 / 256 / 256 / 256 / 256 / 256 / 256 % 256)
-    ≡ sets l at (bytesOf 8 x)
-unfolding bytesOf
-word-laid l at x = simp towards-suc
+-- two stores and a count's bytes are a row's head; the head and the bytes of two sets are the row's
+pub head-laid : (l last : List ℕ) (at s c : ℕ) → last ≡ sets (set (set l at s) (at + 1) 0) (at + 2) (bytesOf 2 c) → last ≡ sets l at (s ∷ 0 ∷ bytesOf 2 c)
+head-laid l last at s c e = e ∙ simp towards-suc
 
--- four stores are a row's head, and the head and two words its bytes
-pub head-laid : (l : List ℕ) (at s c : ℕ) → set (set (set (set l at s) (at + 1) 0) (at + 2) (c % 256)) (at + 3) (c / 256 % 256) ≡ sets l at (s ∷ 0 ∷ bytesOf 2 c)
-unfolding bytesOf
-head-laid l at s c = simp towards-suc
-
-pub row-laid : (l h m last : List ℕ) (at : ℕ) (r : Row) (s S T : ℕ) → s ≡ stateNumber (r .state) → S ≡ stationsShown (r .state) → T ≡ stocksShown (r .state)
-    → h ≡ sets l at (s ∷ 0 ∷ bytesOf 2 (r .count)) → m ≡ sets h (at + 4) (bytesOf 8 S) → last ≡ sets m (at + 12) (bytesOf 8 T) → last ≡ sets l at (rowBytes r)
+pub row-laid : (l h m last : List ℕ) (at : ℕ) (r : Row) (told : Shown) → told ≡ shownOf (r .state)
+    → h ≡ sets l at (told .number ∷ 0 ∷ bytesOf 2 (r .count)) → m ≡ sets h (at + 4) (bytesOf 8 (told .stations)) → last ≡ sets m (at + 12) (bytesOf 8 (told .stocks)) → last ≡ sets l at (rowBytes r)
 unfolding rowBytes bytesOf
-row-laid l h m last at r s S T p q t e f g =
-    let front : List ℕ = stateNumber (r .state) ∷ 0 ∷ bytesOf 2 (r .count) in
-    let first : List ℕ = bytesOf 8 (stationsShown (r .state)) in
-    let second : List ℕ = bytesOf 8 (stocksShown (r .state)) in
-    rw (g, f, e, p, q, t) (sym (sets-append l at (front ++ first) second ∙ ap (λ (z : List ℕ). sets z (at + 12) second) (sets-append l at front first)))
+row-laid l h m last at r told p e f g =
+    let front : List ℕ = shownOf (r .state) .number ∷ 0 ∷ bytesOf 2 (r .count) in
+    let first : List ℕ = bytesOf 8 (shownOf (r .state) .stations) in
+    let second : List ℕ = bytesOf 8 (shownOf (r .state) .stocks) in
+    rw (g, f, e, p) (sym (sets-append l at (front ++ first) second ∙ ap (λ (z : List ℕ). sets z (at + 12) second) (sets-append l at front first)))
 
 pub answer-more : (i : ℕ) (rows : List Row) (d : Row) → i < length rows → answerBytes (i + 1) rows ≡ answerBytes i rows ++ rowBytes (getD rows i d)
 unfolding answerBytes

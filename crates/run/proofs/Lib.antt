@@ -1,6 +1,7 @@
 -- Laws for the proofs of this crate.
 mod Little
-mod Laid
+mod Showing
+pub mod Laid
 mod Judging
 pub mod Agree
 pub mod Demands

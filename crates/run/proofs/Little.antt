@@ -1,41 +1,73 @@
 -- Little-endian numbers: read from a list of bytes, and put into one.
-use Prim.Native.Nat.{ℕ, zero, suc, _+_, _*_, _≤_, _<_}
+use Prim.Native.Nat.{ℕ, zero, suc, _+_, _-_, _*_, _/_, _%_, _^_, _≤_, _<_}
 use mathlib.Core.Path.{_≡_, refl, sym, ap, _∙_}
-use mathlib.Core.List.{List}
-use native.Mathlib.Numerals.{add-one}
+use mathlib.Core.List.{List, _∷_}
+use native.Mathlib.Nat.{add-zero, lt-of-lt-of-le, pow-succ', pow-le-pow-right}
 use native.Mathlib.Decide.{decLt}
 use native.Mathlib.Omega.{arith}
 use borrow.Author.Count.{below-more}
 use lib.ListN.{length, getD, take, drop, set, length-set, drop-of-length-le, replicate}
-use lib.Seq.{drop-cons, drop-drop, ext-getD, getD-set-same, getD-set-other}
-use Rattle.run.specs.Bytes.{numberIn, inputsIn}
+use lib.Seq.{sets, drop-cons, drop-drop, ext-getD, getD-set-same, getD-set-other}
+use Rattle.run.specs.Bytes.{bytesOf, numberIn, inputsIn}
 
--- the number in m bytes from `at`, byte by byte
-number : ℕ → List ℕ → ℕ → ℕ
-number zero l at = 0
-number (suc m) l at = getD l at 0 + 256 * number m l (at + 1)
+-- ---- a number out of eight bytes
 
-number-in : (m : ℕ) (l : List ℕ) (at : ℕ) → at + m ≤ length l → numberIn (take m (drop at l)) ≡ number m l at
-unfolding number numberIn
-number-in zero l at h = refl
-number-in (suc m) l at h =
-    let i : at < length l = omega arith in
-    let ih : numberIn (take m (drop (at + 1) l)) ≡ number m l (at + 1) = number-in m l (at + 1) (omega arith) in
-    rw (drop-cons l at 0, ← add-one at) (ap (λ (x : ℕ). getD l at 0 + 256 * x) ih)
+-- x is the number in the last of the eight bytes from `at`, without the first `left`
+pub record Numbered (l : List ℕ) (at left x : ℕ) : Type 0 where
+  pub low : left ≤ 8
+  pub is : x ≡ numberIn (take (8 - left) (drop (at + left) l))
+  pub small : x < 256 ^ (8 - left)
 
-pub word-in : (l : List ℕ) (at a b c d e f g h : ℕ) → at + 8 ≤ length l
-    → a ≡ getD l at 0 → b ≡ getD l (at + 1) 0 → c ≡ getD l (at + 2) 0 → d ≡ getD l (at + 3) 0
-    → e ≡ getD l (at + 4) 0 → f ≡ getD l (at + 5) 0 → g ≡ getD l (at + 6) 0 → h ≡ getD l (at + 7) 0
-    → a + 256 * (b + 256 * (c + 256 * (d + 256 * (e + 256 * (f + 256 * (g + 256 * h)))))) ≡ numberIn (take 8 (drop at l))
-unfolding number
-word-in l at a b c d e f g h room qa qb qc qd qe qf qg qh =
-    let two : at + 1 + 1 ≡ at + 2 = omega arith in
-    let three : at + 2 + 1 ≡ at + 3 = omega arith in
-    let four : at + 3 + 1 ≡ at + 4 = omega arith in
-    let five : at + 4 + 1 ≡ at + 5 = omega arith in
-    let six : at + 5 + 1 ≡ at + 6 = omega arith in
-    let seven : at + 6 + 1 ≡ at + 7 = omega arith in
-    rw number-in (rw (two, three, four, five, six, seven) (omega arith))
+pub numbered-none : (l : List ℕ) (at : ℕ) → Numbered l at 8 0
+unfolding numberIn
+numbered-none l at = record { low = omega arith; is = refl; small = omega arith }
+
+-- seven bytes at most
+pub numbered-room : {l : List ℕ} {at left x : ℕ} → Numbered l at left x → 0 < left → x < 72057594037927936
+numbered-room {l} {at} {left} {x} p h = lt-of-lt-of-le (p .small) (pow-le-pow-right {n = 256} (omega arith) {i = 8 - left} {j = 7} (omega arith))
+
+pub numbered-more : {l : List ℕ} {at left x : ℕ} (b : ℕ) → at + 8 ≤ length l → Numbered l at left x → 0 < left → b ≡ getD l (at + (left - 1)) 0 → b < 256
+    → Numbered l at (left - 1) (256 * x + b)
+unfolding numberIn
+numbered-more {l} {at} {left} {x} b room p h e s =
+    let low = p .low in
+    let small = p .small in
+    let more : 8 - (left - 1) ≡ suc (8 - left) = omega arith in
+    let next : at + left ≡ suc (at + (left - 1)) = omega arith in
+    let here : drop (at + (left - 1)) l ≡ getD l (at + (left - 1)) 0 ∷ drop (suc (at + (left - 1))) l = drop-cons l (at + (left - 1)) 0 (omega arith) in
+    record { low = omega arith; is = rw (more, here, ← next, ← p .is, ← e) (omega arith); small = rw (more, pow-succ') (omega arith) }
+
+pub numbered-all : {l : List ℕ} {at left x : ℕ} → Numbered l at left x → left ≤ 0 → x ≡ numberIn (take 8 (drop at l))
+numbered-all {l} {at} {left} {x} p h =
+    let none : left ≡ 0 = omega arith in
+    p .is ∙ rw (none, add-zero)
+
+-- ---- the bytes of a number, put one by one
+
+-- what is still to be put makes the whole
+pub record Putting (l₀ : List ℕ) (at w x : ℕ) (l : List ℕ) (rest i : ℕ) : Type 0 where
+  pub low : i ≤ w
+  pub long : length l ≡ length l₀
+  pub whole : sets l (at + i) (bytesOf (w - i) rest) ≡ sets l₀ at (bytesOf w x)
+
+pub putting-none : (l : List ℕ) (at w x : ℕ) → Putting l at w x l x 0
+putting-none l at w x =
+    let here : at + 0 ≡ at = omega arith in
+    let all : w - 0 ≡ w = omega arith in
+    record { low = omega arith; long = refl; whole = rw (here, all) }
+
+pub putting-more : {l₀ l : List ℕ} {at w x rest i : ℕ} → Putting l₀ at w x l rest i → i < w → Putting l₀ at w x (set l (at + i) (rest % 256)) (rest / 256) (i + 1)
+unfolding bytesOf
+putting-more {l₀} {l} {at} {w} {x} {rest} {i} p h =
+    let one : w - i ≡ suc (w - (i + 1)) = omega arith in
+    let next : suc (at + i) ≡ at + (i + 1) = omega arith in
+    record { low = omega arith; long = length-set l (at + i) (rest % 256) ∙ p .long; whole = rw (← next) (rw one at (p .whole)) }
+
+pub putting-all : {l₀ l : List ℕ} {at w x rest i : ℕ} → Putting l₀ at w x l rest i → w ≤ i → l ≡ sets l₀ at (bytesOf w x)
+unfolding bytesOf
+putting-all {l₀} {l} {at} {w} {x} {rest} {i} p h = let none : w - i ≡ 0 = omega arith in rw none at (p .whole)
+
+-- ---- the inputs
 
 -- a station's input, by its place
 pub input-at : (m : ℕ) (bytes : List ℕ) (k : ℕ) → k < m → getD (inputsIn m bytes) k 0 ≡ numberIn (take 8 (drop (8 * k) bytes))

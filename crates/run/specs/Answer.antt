@@ -4,32 +4,23 @@ use mathlib.Core.List.{List, [], _∷_, _++_}
 use Rattle.method.specs.declared.State.{State}
 use Rattle.method.specs.declared.State.the-variants.{NotBegun, Uniting, Gathering, Settled}
 use Rattle.method.specs.declared.Row.{Row}
+use Rattle.run.specs.declared.shown.Shown.{Shown}
 use Rattle.run.specs.Bytes.{bytesOf}
 
--- "state (0 not begun, 1 under way, 2 settled)"
-abbrev pub stateNumber : State → ℕ
-stateNumber (NotBegun stocks) = 0
-stateNumber (Uniting k own other side round) = 1
-stateNumber (Gathering S j got) = 1
-stateNumber (Settled S got) = 2
+abbrev pub shows : ℕ → ℕ → ℕ → Shown
+shows number stations stocks = record { number = number; stations = stations; stocks = stocks }
 
--- "Both sets are zero until settled."
-abbrev pub stationsShown : State → ℕ
-stationsShown (NotBegun stocks) = 0
-stationsShown (Uniting k own other side round) = 0
-stationsShown (Gathering S j got) = 0
-stationsShown (Settled S got) = S
-
-abbrev pub stocksShown : State → ℕ
-stocksShown (NotBegun stocks) = 0
-stocksShown (Uniting k own other side round) = 0
-stocksShown (Gathering S j got) = 0
-stocksShown (Settled S got) = got
+-- "state (0 not begun, 1 under way, 2 settled)", "Both sets are zero until settled."
+abbrev pub shownOf : State → Shown
+shownOf (NotBegun stocks) = shows 0 0 0
+shownOf (Uniting k own other side round) = shows 1 0 0
+shownOf (Gathering S j got) = shows 1 0 0
+shownOf (Settled S got) = shows 2 S got
 
 -- "state, a zero byte, count (2 bytes), stations set (8), stocks set (8), all little-endian"
 unfoldable pub rowBytes : Row → List ℕ
 rowBytes r =
-    stateNumber (r .state) ∷ 0 ∷ bytesOf 2 (r .count) ++ bytesOf 8 (stationsShown (r .state)) ++ bytesOf 8 (stocksShown (r .state))
+    shownOf (r .state) .number ∷ 0 ∷ bytesOf 2 (r .count) ++ bytesOf 8 (shownOf (r .state) .stations) ++ bytesOf 8 (shownOf (r .state) .stocks)
 
 -- the first n rows, one after the other
 unfoldable pub answerBytes : ℕ → List Row → List ℕ

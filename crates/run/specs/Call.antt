@@ -1,6 +1,6 @@
 -- The run call: document 01, "The run call".
-use Prim.Native.Nat.{ℕ, zero, suc, _+_, _*_, _-_}
-use mathlib.Core.Bool.{Bool, true, false, cond, not, _&&_}
+use Prim.Native.Nat.{ℕ, _+_, _*_}
+use mathlib.Core.Bool.{Bool, cond, not, _&&_}
 use mathlib.Core.Path.{_≡_}
 use mathlib.Core.List.{List, _++_}
 use lib.Dec.{leb, ltb, eqb}
@@ -24,15 +24,6 @@ numberOf TooManyTurns = 3
 numberOf (BadTurn at) = 4 + 100 * at
 numberOf ShortAnswer = 5
 numberOf (UnwrittenLine at) = 6 + 100 * at
-
-abbrev pub isAccepted : Verdict → Bool
-isAccepted Accepted = true
-isAccepted NoStations = false
-isAccepted WrongInputs = false
-isAccepted TooManyTurns = false
-isAccepted (BadTurn at) = false
-isAccepted ShortAnswer = false
-isAccepted (UnwrittenLine at) = false
 
 -- "a turn is 0 or above n": the first such turn, counted from 0
 abbrev pub isBad : ℕ → List ℕ → ℕ → Bool

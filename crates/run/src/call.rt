@@ -2,11 +2,10 @@
 ghost use mathlib.Core.Path.{_≡_};
 ghost use lib.ListN.{length};
 ghost use Rattle.run.specs.declared.verdict.Verdict.the-variants.{Accepted};
-ghost use Rattle.run.specs.Call.{tests, begun, playedOut, answerFor, returned, answered, Called};
+ghost use Rattle.run.specs.Call.{tests, returned, answered, Called};
 use super::tests::tested;
 use super::told;
 use super::verdict::Verdict;
-use super::verdict::is_accepted;
 use super::verdict::number_of;
 use super::words;
 
@@ -34,9 +33,9 @@ fn carried_out(n: u64, inputs: &[u8], turns: &[u8], answer: &mut [u8]) -> Verdic
 pub extern "C" fn gang_run(n: u64, inputs: &[u8], turns: &[u8], answer: &mut [u8]) -> u32
     ensures { λ r. ⌜ (r ≡ returned n (now (inputs .entry)) (now (turns .entry)) (now (answer .entry))) × (now (answer .exit) ≡ answered n (now (inputs .entry)) (now (turns .entry)) (now (answer .entry))) ⌝ }
 {
-    let verdict = tested(n, inputs.len(), turns, answer.len());
-    if is_accepted(verdict) {
+    let refusal = number_of(tested(n, inputs.len(), turns, answer.len()));
+    if refusal == 0 {
         return number_of(carried_out(n, inputs, turns, answer));
     }
-    number_of(verdict)
+    refusal
 }

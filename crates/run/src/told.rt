@@ -6,9 +6,7 @@ ghost use lib.ListN.{length, drop};
 ghost use lib.Seq.{sets};
 ghost use Rattle.run.specs.Bytes.{bytesOf};
 ghost use Rattle.run.specs.Answer.{rowBytes, answerBytes};
-use super::shown::state_number;
-use super::shown::stations_shown;
-use super::shown::stocks_shown;
+use super::shown;
 use super::words;
 use method::Row;
 
@@ -19,8 +17,7 @@ fn put_head(dst: &mut [u8], at: usize, state: u8, count: u16)
 {
     dst[at] = state;
     dst[at + 1] = 0;
-    dst[at + 2] = (count % 256) as u8;
-    dst[at + 3] = (count / 256 % 256) as u8;
+    words::put_number(dst, at + 2, 2, count as u64);
 }
 
 // Puts a row's twenty bytes from `at` on.
@@ -29,12 +26,10 @@ fn put_row(dst: &mut [u8], at: usize, row: Row)
     ensures { λ r. ⌜ now (dst .exit) ≡ sets (now (dst .entry)) at (rowBytes row) ⌝ }
 {
     let state = row.state;
-    let number = state_number(state);
-    let stations = stations_shown(state);
-    let stocks = stocks_shown(state);
-    put_head(dst, at, number, row.count);
-    words::put_word(dst, at + 4, stations);
-    words::put_word(dst, at + 12, stocks);
+    let told = shown::shown_of(state);
+    put_head(dst, at, told.number, row.count);
+    words::put_number(dst, at + 4, 8, told.stations);
+    words::put_number(dst, at + 12, 8, told.stocks);
 }
 
 // Puts the first n rows, one after the other.

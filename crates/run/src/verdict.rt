@@ -1,6 +1,6 @@
 // What comes of a call: a result, or the one refusal that is first in the table's order.
 ghost use mathlib.Core.Path.{_≡_};
-ghost use Rattle.run.specs.Call.{numberOf, isAccepted};
+ghost use Rattle.run.specs.Call.{numberOf};
 
 pub enum Verdict {
     Accepted,
@@ -24,19 +24,5 @@ pub fn number_of(verdict: Verdict) -> u32
         Verdict::BadTurn { at } => 4 + 100 * (at as u32),
         Verdict::ShortAnswer => 5,
         Verdict::UnwrittenLine { at } => 6 + 100 * (at as u32),
-    }
-}
-
-pub fn is_accepted(verdict: Verdict) -> bool
-    ensures { λ r. ⌜ r ≡ isAccepted verdict ⌝ }
-{
-    match verdict {
-        Verdict::Accepted => true,
-        Verdict::NoStations => false,
-        Verdict::WrongInputs => false,
-        Verdict::TooManyTurns => false,
-        Verdict::BadTurn { at: _ } => false,
-        Verdict::ShortAnswer => false,
-        Verdict::UnwrittenLine { at: _ } => false,
     }
 }

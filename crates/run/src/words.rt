@@ -11,20 +11,18 @@ fn wide(b: u8) -> u64
     b as u64
 }
 
-// The number in the eight bytes from `at`.
+// The number in the eight bytes from `at`, from the highest byte down.
 pub fn word_at(bytes: &[u8], at: usize) -> u64
     requires { ⌜ at + 8 ≤ length (now bytes) ⌝ }
     ensures { λ r. ⌜ r ≡ numberIn (take 8 (drop at (now (bytes .entry)))) ⌝ }
 {
-    let a = wide(bytes[at]);
-    let b = wide(bytes[at + 1]);
-    let c = wide(bytes[at + 2]);
-    let d = wide(bytes[at + 3]);
-    let e = wide(bytes[at + 4]);
-    let f = wide(bytes[at + 5]);
-    let g = wide(bytes[at + 6]);
-    let h = wide(bytes[at + 7]);
-    a + 256 * (b + 256 * (c + 256 * (d + 256 * (e + 256 * (f + 256 * (g + 256 * h))))))
+    let mut x = 0;
+    let mut left: usize = 8;
+    while 0 < left {
+        left -= 1;
+        x = 256 * x + wide(bytes[at + left]);
+    }
+    x
 }
 
 // The inputs of n stations, and nothing for the others.
@@ -41,24 +39,16 @@ pub fn inputs_of(n: usize, bytes: &[u8]) -> [u64; 16]
     inputs
 }
 
-// Puts the eight bytes of x from `at` on.
-pub fn put_word(dst: &mut [u8], at: usize, x: u64)
-    requires { ⌜ at + 8 ≤ length (now dst) ⌝ }
-    ensures { λ r. ⌜ now (dst .exit) ≡ sets (now (dst .entry)) at (bytesOf 8 x) ⌝ }
+// Puts the w lowest bytes of x from `at` on.
+pub fn put_number(dst: &mut [u8], at: usize, w: usize, x: u64)
+    requires { ⌜ at + w ≤ length (now dst) ⌝ }
+    ensures { λ r. ⌜ now (dst .exit) ≡ sets (now (dst .entry)) at (bytesOf w x) ⌝ }
 {
-    let b = x / 256;
-    let c = b / 256;
-    let d = c / 256;
-    let e = d / 256;
-    let f = e / 256;
-    let g = f / 256;
-    let h = g / 256;
-    dst[at] = (x % 256) as u8;
-    dst[at + 1] = (b % 256) as u8;
-    dst[at + 2] = (c % 256) as u8;
-    dst[at + 3] = (d % 256) as u8;
-    dst[at + 4] = (e % 256) as u8;
-    dst[at + 5] = (f % 256) as u8;
-    dst[at + 6] = (g % 256) as u8;
-    dst[at + 7] = (h % 256) as u8;
+    let mut rest = x;
+    let mut i = 0;
+    while i < w {
+        dst[at + i] = (rest % 256) as u8;
+        rest /= 256;
+        i += 1;
+    }
 }

@@ -4,14 +4,8 @@ use borrow.Author.Needs.{needs}
 use Rattle.report.proofs.lines.put_station.Statement.{statement}
 use Rattle.report.proofs.lines.put_station.Tie as tie
 
-state-number-requires : tie.Need-state-number-requires
-state-number-requires c κs = search needs
-
-stations-shown-requires : tie.Need-stations-shown-requires
-stations-shown-requires c κs = search needs
-
-stocks-shown-requires : tie.Need-stocks-shown-requires
-stocks-shown-requires c κs = search needs
+shown-of-requires : tie.Need-shown-of-requires
+shown-of-requires c κs = search needs
 
 slice-aggregate-put-bytes : tie.Need-slice-aggregate-put-bytes
 slice-aggregate-put-bytes c = search needs
@@ -42,20 +36,24 @@ same-length c = search needs
 
 returns : tie.Need-returns
 returns c =
-    let a = c .before .before .before .before .before .before .before .before .before .before .before .before .before .before .before .before .before .before .before .before .before .before .before .before .before .before .before .before .before .args in (
-      station-put _ _ _ _ _ _ _ _ _ _ _ _ _ _ (a .i) (c .before .before .before .before .before .before .before .before .before .before .before .before .before .before .before .before .before .before .before .before .before .before .before .before .before .before .before .state-number .result) (c .before .before .before .before .before .before .before .before .before .before .before .before .before .before .before .before .before .before .before .before .before .before .before .before .before .before .stations-shown .result) (c .before .before .before .before .before .before .before .before .before .before .before .before .before .before .before .before .before .before .before .before .before .before .before .before .before .stocks-shown .result) (a .row)
-          (c .before .before .before .before .before .before .before .before .before .before .before .before .before .before .before .before .before .before .before .before .before .before .before .before .before .before .before .state-number .ensures) (c .before .before .before .before .before .before .before .before .before .before .before .before .before .before .before .before .before .before .before .before .before .before .before .before .before .before .stations-shown .ensures) (c .before .before .before .before .before .before .before .before .before .before .before .before .before .before .before .before .before .before .before .before .before .before .before .before .before .stocks-shown .ensures)
-          (c .before .before .before .before .before .before .before .before .before .before .before .before .before .before .before .before .before .before .before .before .before .before .put-bytes .ensures) (c .before .before .before .before .before .before .before .before .before .before .before .before .before .before .before .before .before .before .put-number .ensures .0) (c .before .before .before .before .before .before .before .before .before .before .before .before .before .before .put-number2 .ensures .0) (c .before .before .before .before .before .before .before .before .before .before .put-number3 .ensures .0) (c .before .before .before .before .before .before .put-set .ensures .0) (c .before .before .put-set2 .ensures .0),
-      omega (arith, c .before .before .before .before .before .before .before .before .before .before .before .before .before .before .before .before .before .before .before .before .before .before .put-bytes .ensures .moved, c .before .before .before .before .before .before .before .before .before .before .before .before .before .before .before .before .before .before .put-number .ensures .1, c .before .before .before .before .before .before .before .before .before .before .before .before .before .before .put-number2 .ensures .1, c .before .before .before .before .before .before .before .before .before .before .put-number3 .ensures .1, c .before .before .before .before .before .before .put-set .ensures .1, c .before .before .put-set2 .ensures .1),
+    let sixth = c .before .before in
+    let fifth = sixth .before .before .before .before in
+    let fourth = fifth .before .before .before .before in
+    let third = fourth .before .before .before .before in
+    let second = third .before .before .before .before .before in
+    let first = second .before .before .before .before in
+    let told = first .before .before .before .before in
+    let a = told .before .before .args in (
+      station-put _ _ _ _ _ _ _ _ _ _ _ _ _ _ (a .i) (a .row) (told .shown-of .result) (told .shown-of .ensures)
+          (first .put-bytes .ensures) (second .put-number .ensures .0) (third .put-number2 .ensures .0) (fourth .put-number3 .ensures .0) (fifth .put-set .ensures .0) (sixth .put-set2 .ensures .0),
+      omega (arith, first .put-bytes .ensures .moved, second .put-number .ensures .1, third .put-number2 .ensures .1, fourth .put-number3 .ensures .1, fifth .put-set .ensures .1, sixth .put-set2 .ensures .1),
     )
 
 pub put-station-spec : {M : Type 1} → statement M
 put-station-spec =
     tie.close
     (tie.spec
-    state-number-requires
-    stations-shown-requires
-    stocks-shown-requires
+    shown-of-requires
     slice-aggregate-put-bytes
     put-bytes-requires
     put-number-requires

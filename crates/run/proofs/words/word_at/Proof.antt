@@ -1,161 +1,57 @@
-use borrow.Author.Needs.{needs}
-use Rattle.run.proofs.Little.{word-in}
+use native.Mathlib.Omega.{arith}
+use Rattle.run.proofs.Little.{Numbered, numbered-none, numbered-room, numbered-more, numbered-all}
 use Rattle.run.proofs.words.word_at.Statement.{statement}
 use Rattle.run.proofs.words.word_at.Tie as tie
 
-shared-slice-read-wide : tie.Need-shared-slice-read-wide
-shared-slice-read-wide c = search needs
+abbrev Inv-loop : tie.InvT-loop
+Inv-loop bytes at x₀ left₀ x left = Numbered bytes at left x
 
-wide-requires : tie.Need-wide-requires
-wide-requires c κs = search needs
+abbrev μ-loop : tie.MeasureT-loop
+μ-loop bytes at x₀ left₀ x left = left
 
-add-wide : tie.Need-add-wide
-add-wide c = search needs
+loop-holds : tie.Need-loop-holds Inv-loop μ-loop
+loop-holds c = numbered-none _ _
 
-shared-slice-read-wide-2 : tie.Need-shared-slice-read-wide-2
-shared-slice-read-wide-2 c = search needs
+sub-left : tie.Need-sub-left Inv-loop μ-loop
+sub-left c = omega arith
 
-wide-requires-2 : tie.Need-wide-requires-2
-wide-requires-2 c κs = search needs
+mul-x : tie.Need-mul-x Inv-loop μ-loop
+mul-x c = let r = numbered-room (c .before .loop .inv) (c .loop-test .taken) in omega arith
 
-add-wide-2 : tie.Need-add-wide-2
-add-wide-2 c = search needs
+add-wide : tie.Need-add-wide Inv-loop μ-loop
+add-wide c = omega (arith, c .before .loop .inv .low)
 
-shared-slice-read-wide-3 : tie.Need-shared-slice-read-wide-3
-shared-slice-read-wide-3 c = search needs
+shared-slice-read-wide : tie.Need-shared-slice-read-wide Inv-loop μ-loop
+shared-slice-read-wide c = omega (arith, c .before .before .loop .inv .low)
 
-wide-requires-3 : tie.Need-wide-requires-3
-wide-requires-3 c κs = search needs
+wide-requires : tie.Need-wide-requires Inv-loop μ-loop
+wide-requires c κs = tt
 
-add-wide-3 : tie.Need-add-wide-3
-add-wide-3 c = search needs
+add-x : tie.Need-add-x Inv-loop μ-loop
+add-x c = let r = numbered-room (c .before .before .before .loop .inv) (c .before .before .loop-test .taken) in omega (arith, c .wide .ensures .1)
 
-shared-slice-read-wide-4 : tie.Need-shared-slice-read-wide-4
-shared-slice-read-wide-4 c = search needs
+loop-less : tie.Need-loop-less Inv-loop μ-loop
+loop-less c = omega arith
 
-wide-requires-4 : tie.Need-wide-requires-4
-wide-requires-4 c κs = search needs
+loop-again : tie.Need-loop-again Inv-loop μ-loop
+loop-again c = numbered-more (c .wide .result) (c .before .before .before .before .before .pre) (c .before .before .before .loop .inv) (c .before .before .loop-test .taken) (c .wide .ensures .0) (c .wide .ensures .1)
 
-add-wide-4 : tie.Need-add-wide-4
-add-wide-4 c = search needs
-
-shared-slice-read-wide-5 : tie.Need-shared-slice-read-wide-5
-shared-slice-read-wide-5 c = search needs
-
-wide-requires-5 : tie.Need-wide-requires-5
-wide-requires-5 c κs = search needs
-
-add-wide-5 : tie.Need-add-wide-5
-add-wide-5 c = search needs
-
-shared-slice-read-wide-6 : tie.Need-shared-slice-read-wide-6
-shared-slice-read-wide-6 c = search needs
-
-wide-requires-6 : tie.Need-wide-requires-6
-wide-requires-6 c κs = search needs
-
-add-wide-6 : tie.Need-add-wide-6
-add-wide-6 c = search needs
-
-shared-slice-read-wide-7 : tie.Need-shared-slice-read-wide-7
-shared-slice-read-wide-7 c = search needs
-
-wide-requires-7 : tie.Need-wide-requires-7
-wide-requires-7 c κs = search needs
-
-add-wide-7 : tie.Need-add-wide-7
-add-wide-7 c = search needs
-
-shared-slice-read-wide-8 : tie.Need-shared-slice-read-wide-8
-shared-slice-read-wide-8 c = search needs
-
-wide-requires-8 : tie.Need-wide-requires-8
-wide-requires-8 c κs = search needs
-
-mul-result : tie.Need-mul-result
-mul-result c = search needs
-
-add-result : tie.Need-add-result
-add-result c = search needs
-
-mul-result-2 : tie.Need-mul-result-2
-mul-result-2 c = search needs
-
-add-result-2 : tie.Need-add-result-2
-add-result-2 c = search needs
-
-mul-result-3 : tie.Need-mul-result-3
-mul-result-3 c = search needs
-
-add-result-3 : tie.Need-add-result-3
-add-result-3 c = search needs
-
-mul-result-4 : tie.Need-mul-result-4
-mul-result-4 c = search needs
-
-add-result-4 : tie.Need-add-result-4
-add-result-4 c = search needs
-
-mul-result-5 : tie.Need-mul-result-5
-mul-result-5 c = search needs
-
-add-result-5 : tie.Need-add-result-5
-add-result-5 c = search needs
-
-mul-result-6 : tie.Need-mul-result-6
-mul-result-6 c = search needs
-
-add-result-6 : tie.Need-add-result-6
-add-result-6 c = search needs
-
-mul-result-7 : tie.Need-mul-result-7
-mul-result-7 c = search needs
-
-add-result-7 : tie.Need-add-result-7
-add-result-7 c = search needs
-
-returns : tie.Need-returns
-returns c = search (word-in, needs)
+returns : tie.Need-returns Inv-loop μ-loop
+returns c = numbered-all (c .before .loop .inv) (c .loop-test .left)
 
 pub word-at-spec : {M : Type 1} → statement M
 word-at-spec =
     tie.close
     (tie.spec
+    Inv-loop
+    μ-loop
+    loop-holds
+    sub-left
+    mul-x
+    add-wide
     shared-slice-read-wide
     wide-requires
-    add-wide
-    shared-slice-read-wide-2
-    wide-requires-2
-    add-wide-2
-    shared-slice-read-wide-3
-    wide-requires-3
-    add-wide-3
-    shared-slice-read-wide-4
-    wide-requires-4
-    add-wide-4
-    shared-slice-read-wide-5
-    wide-requires-5
-    add-wide-5
-    shared-slice-read-wide-6
-    wide-requires-6
-    add-wide-6
-    shared-slice-read-wide-7
-    wide-requires-7
-    add-wide-7
-    shared-slice-read-wide-8
-    wide-requires-8
-    mul-result
-    add-result
-    mul-result-2
-    add-result-2
-    mul-result-3
-    add-result-3
-    mul-result-4
-    add-result-4
-    mul-result-5
-    add-result-5
-    mul-result-6
-    add-result-6
-    mul-result-7
-    add-result-7
+    add-x
+    loop-less
+    loop-again
     returns)
