@@ -1,6 +1,6 @@
 -- The refusals before the first turn, by their tests, and what a call that passes them has.
 use Prim.Native.Nat.{ℕ, _+_, _*_, _≤_, _<_}
-use mathlib.Core.Path.{_≡_, refl, ap}
+use mathlib.Core.Path.{_≡_, refl, sym, ap, _∙_}
 use mathlib.Core.Bool.{Bool, true, false, cond, not, _&&_, and-false, false≢true}
 use mathlib.Core.List.{List}
 use native.Mathlib.Omega.{arith}
@@ -9,6 +9,7 @@ use lib.Dec.{leb}
 use lib.ListN.{length, getD}
 use Rattle.run.specs.declared.verdict.Verdict.{Verdict}
 use Rattle.run.specs.declared.verdict.Verdict.the-variants.{Accepted, NoStations, WrongInputs, TooManyTurns, BadTurn, ShortAnswer, UnwrittenLine}
+use Rattle.turns.proofs.Orders.{Passed, passed-more, passed-stop, passed-all}
 use Rattle.run.specs.Call.{numberOf, isBad, firstBad, tests}
 
 -- ---- the number of a refusal with a place
@@ -21,14 +22,24 @@ number-unwritten v at e = rw e
 
 -- ---- a turn that is no station
 
-pub bad-zero : (n : ℕ) (turns : List ℕ) (t : ℕ) → getD turns t 0 ≡ 0 → isBad n turns t ≡ true
-bad-zero n turns t e = rw e
+pub station-none : (n x : ℕ) → x ≡ 0 → false ≡ (leb 1 x && leb x n)
+station-none n x e = rw e
 
-pub bad-high : (n : ℕ) (turns : List ℕ) (t : ℕ) → n < getD turns t 0 → isBad n turns t ≡ true
-bad-high n turns t h = rw (lt-leb _ _ h, and-false (leb 1 (getD turns t 0)))
+pub station-is : (n x : ℕ) → (x ≡ 0 → ⊥) → leb x n ≡ (leb 1 x && leb x n)
+station-is n x z = rw (le-leb 1 x (omega arith))
 
-pub good-turn : (n : ℕ) (turns : List ℕ) (t : ℕ) → (getD turns t 0 ≡ 0 → ⊥) → getD turns t 0 ≤ n → isBad n turns t ≡ false
-good-turn n turns t z h = rw (le-leb 1 (getD turns t 0) (omega arith), le-leb _ _ h)
+module _ (n : ℕ) (turns : List ℕ) (t : ℕ) (p : Passed (isBad n turns) (length turns) t) where
+  module _ (h : t < length turns) (b : Bool) (e : b ≡ (leb 1 (getD turns t 0) && leb (getD turns t 0) n)) where
+    pub bad-stops : b ≡ false → t ≡ firstBad n turns
+    unfolding firstBad
+    bad-stops f = sym (passed-stop (isBad n turns) p h (ap not (sym e ∙ f)))
+
+    pub good-passes : b ≡ true → Passed (isBad n turns) (length turns) (t + 1)
+    good-passes f = passed-more (isBad n turns) p h (ap not (sym e ∙ f))
+
+  pub none-bad : length turns ≤ t → t ≡ firstBad n turns
+  unfolding firstBad
+  none-bad h = sym (passed-all (isBad n turns) p h)
 
 -- ---- the tests, by the one that decides
 

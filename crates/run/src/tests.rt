@@ -1,7 +1,19 @@
 // The refusals 1 to 5, in the table's order.
 ghost use mathlib.Core.Path.{_≡_};
+ghost use mathlib.Core.Bool.{_&&_};
+ghost use lib.Dec.{leb};
 ghost use Rattle.run.specs.Call.{firstBad, tests};
 use super::verdict::Verdict;
+
+// Whether it is the number of one of n stations.
+fn is_station(n: u64, number: u64) -> bool
+    ensures { λ r. ⌜ r ≡ (leb 1 number && leb number n) ⌝ }
+{
+    if number == 0 {
+        return false;
+    }
+    number <= n
+}
 
 // The first turn that is 0 or above n, or the number of turns where there is none.
 fn first_bad(n: u64, turns: &[u8]) -> usize
@@ -9,14 +21,11 @@ fn first_bad(n: u64, turns: &[u8]) -> usize
 {
     let mut t = 0;
     while t < turns.len() {
-        let station = turns[t] as u64;
-        if station == 0 {
+        if is_station(n, turns[t] as u64) {
+            t += 1;
+        } else {
             return t;
         }
-        if n < station {
-            return t;
-        }
-        t += 1;
     }
     t
 }
