@@ -6,17 +6,17 @@ use mathlib.Core.List.{List, [], _∷_}
 use native.Mathlib.Omega.{arith}
 use lib.ListN.{length, take, length-take}
 use borrow.Author.Tests.{le-leb, lt-leb}
-use Rattle.plan.specs.Limits.{mostCode}
-use Rattle.plan.specs.Number.{empty}
-use Rattle.plan.specs.Code.{codeOf}
-use Rattle.plan.specs.Plan.{Out, taken, no, code, Holding, holding, addStock, takeCode}
-use Rattle.plan.specs.Window.{part}
+use Rattle.text.specs.Limits.{mostCode}
+use Rattle.text.specs.Number.{empty}
+use Rattle.text.specs.Code.{codeOf}
+use Rattle.text.specs.Plan.{Out, taken, no, code, Holding, holding, addStock, takeCode}
+use Rattle.fields.specs.Window.{part}
 use Rattle.plan.specs.Hand.{codesIn, Table, CodedRead}
 use Rattle.plan.specs.declared.Coded.{Coded}
 use Rattle.plan.specs.declared.Coded.the-variants.{Stocks, Refused}
-use Rattle.plan.specs.declared.Fault.{Fault}
-use Rattle.plan.specs.declared.Fault.the-variants.{NoCode}
-use Rattle.plan.proofs.Codes.{code-front}
+use Rattle.text.specs.declared.Fault.{Fault}
+use Rattle.text.specs.declared.Fault.the-variants.{NoCode}
+use Rattle.text.proofs.Codes.{code-front}
 use Rattle.plan.proofs.Windows.{part-length, part-front}
 
 module _ (h : Holding) (f : List ℕ) where

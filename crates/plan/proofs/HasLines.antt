@@ -4,12 +4,12 @@ use mathlib.Core.Path.{_≡_, refl, sym, ap, _∙_}
 use mathlib.Core.List.{List}
 use native.Mathlib.Omega.{arith}
 use lib.ListN.{length, getD, take, drop, set}
-use Rattle.plan.specs.Text.{run}
-use Rattle.plan.specs.Number.{numberTo}
-use Rattle.plan.specs.Plan.{Out, taken, no, then, each, station, Holding, holding, takeCode, Stocked, stocked, hasLine}
-use Rattle.plan.specs.Window.{part, noTab, fieldsFrom}
-use Rattle.plan.specs.declared.Fault.{Fault}
-use Rattle.plan.specs.declared.Fault.the-variants.{FewFields, NoStation}
+use Rattle.text.specs.Text.{run}
+use Rattle.text.specs.Number.{numberTo}
+use Rattle.text.specs.Plan.{Out, taken, no, then, each, station, Holding, holding, takeCode, Stocked, stocked, hasLine}
+use Rattle.fields.specs.Window.{part, noTab, fieldsFrom}
+use Rattle.text.specs.declared.Fault.{Fault}
+use Rattle.text.specs.declared.Fault.the-variants.{FewFields, NoStation}
 use Rattle.plan.proofs.Windows.{fields-step}
 use Rattle.plan.proofs.Fields.{fields-none}
 use Rattle.plan.proofs.Turned.{station-none, station-is}

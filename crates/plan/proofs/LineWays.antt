@@ -3,14 +3,14 @@ use Prim.Native.Nat.{ℕ, _+_}
 use mathlib.Core.Path.{_≡_, sym, ap, _∙_, subst}
 use mathlib.Core.List.{List}
 use lib.ListN.{take, drop}
-use Rattle.plan.specs.Text.{run}
-use Rattle.plan.specs.Plan.{Out, taken, no, then, Stocked, stocked, hasLine, turnLine, Held, held, wordOf, wordLine, laterFields}
-use Rattle.plan.specs.Window.{part, noTab, fieldsFrom}
+use Rattle.text.specs.Text.{run}
+use Rattle.text.specs.Plan.{Out, taken, no, then, Stocked, stocked, hasLine, turnLine, Held, held, wordOf, wordLine, laterFields}
+use Rattle.fields.specs.Window.{part, noTab, fieldsFrom}
 use Rattle.plan.specs.Hand.{TurnsRead, codesIn, StockedRead, Hand, hand, heldOf, PlanIn, LineAt, LineRead}
-use Rattle.plan.specs.declared.Word.{Word}
-use Rattle.plan.specs.declared.Word.the-variants.{Has, Turn, Other}
-use Rattle.plan.specs.declared.Fault.{Fault}
-use Rattle.plan.specs.declared.Fault.the-variants.{OtherWord}
+use Rattle.text.specs.declared.Word.{Word}
+use Rattle.text.specs.declared.Word.the-variants.{Has, Turn, Other}
+use Rattle.text.specs.declared.Fault.{Fault}
+use Rattle.text.specs.declared.Fault.the-variants.{OtherWord}
 use Rattle.plan.specs.declared.Counted.{Counted}
 use Rattle.plan.specs.declared.Counted.the-variants.{Count, Refused}
 use Rattle.plan.specs.declared.Line.{Line}

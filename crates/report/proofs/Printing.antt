@@ -6,19 +6,19 @@ use native.Mathlib.Nat.{add-zero}
 use native.Mathlib.Omega.{arith}
 use lib.ListN.{length, getD, take, drop, length-append, length-map, List·getD-append}
 use lib.Seq.{sets, length-sets, length-take-le, take-at, drop-at, getD-drop, drop-drop, take-append-seam}
-use Rattle.plan.specs.Limits.{mostStocks, mostTurns, mostCode}
-use Rattle.plan.specs.declared.Fault.{Fault}
-use Rattle.plan.specs.declared.Answer.{Answer}
-use Rattle.plan.specs.declared.Answer.the-variants.{Plan, Refused}
-use Rattle.plan.specs.Refusal.{counts, refusal, numberOf, told}
-use Rattle.plan.specs.Buffers.{zeros, padded, cellsOf, toldOf, setsAfter, codesAfter, lensAfter, turnsAfter}
-use Rattle.plan.specs.Plan.{Held, Reading, plan, refused, reading}
-use Rattle.plan.proofs.Celled.{padded-long}
+use Rattle.text.specs.Limits.{mostStocks, mostTurns, mostCode}
+use Rattle.text.specs.declared.Fault.{Fault}
+use Rattle.text.specs.declared.Answer.{Answer}
+use Rattle.text.specs.declared.Answer.the-variants.{Plan, Refused}
+use Rattle.text.specs.Refusal.{counts, refusal, numberOf, told}
+use Rattle.text.specs.Buffers.{zeros, padded, cellsOf, toldOf, setsAfter, codesAfter, lensAfter, turnsAfter}
+use Rattle.text.specs.Plan.{Held, Reading, plan, refused, reading}
+use Rattle.text.proofs.Lengths.{padded-long}
 use Rattle.report.specs.declared.Printed.{Printed}
 use Rattle.report.specs.Lines.{refusalLine}
 use Rattle.report.specs.Printed.{report, printed, mostPrinted, answerOf, bufferOf}
 use Rattle.report.specs.Put.{Put, Ready, codesFrom}
-use Rattle.plan.proofs.Taken.{Sound, plan-sound, place-most}
+use Rattle.text.proofs.Taken.{Sound, plan-sound, place-most}
 use Rattle.report.proofs.Running.{all-stations}
 use Rattle.report.proofs.Handing.{put-front}
 use Rattle.report.proofs.Sizes.{printed-most}

@@ -18,7 +18,7 @@ use Rattle.board.specs.declared.playing.Played.{Played}
 use Rattle.board.specs.Playing.{stepped, firstFrom, isUnwritten, stopsAt, playedOf}
 use Rattle.run.specs.Call.{isBad, firstBad, readsUnwritten, firstUnwritten}
 use Rattle.run.proofs.Agree.{stepped-after, stops-first}
-use Rattle.plan.proofs.Taken.{TurnsFine}
+use Rattle.text.proofs.Taken.{TurnsFine}
 use Rattle.report.specs.Lines.{runLine, stockLine, stationLine, numbered}
 use Rattle.report.specs.Printed.{lines, report}
 use Rattle.report.specs.Put.{Put, countsIn}

@@ -18,18 +18,18 @@ use Rattle.method.specs.Demand.{Fits, isSettled, idleTurns}
 use Rattle.method.proofs.Demand3.{fits-board, counts-add-up, count-within}
 use Rattle.report.proofs.Running.{all-stations}
 use Rattle.run.specs.Answer.{stateNumber, stationsShown, stocksShown}
-use Rattle.plan.specs.Limits.{mostCode}
-use Rattle.plan.specs.Text.{LF, tab}
-use Rattle.plan.specs.declared.Fault.{Fault}
-use Rattle.plan.specs.declared.Fault.the-variants.{LongText, NoGang, StrayByte, OtherWord, FewFields, NoStation, NoCode, MoreStocks, MoreTurns}
-use Rattle.plan.specs.Refusal.{numberOf}
-use Rattle.plan.specs.Plan.{Held, Reading, plan, refused, reading}
+use Rattle.text.specs.Limits.{mostCode}
+use Rattle.text.specs.Text.{LF, tab}
+use Rattle.text.specs.declared.Fault.{Fault}
+use Rattle.text.specs.declared.Fault.the-variants.{LongText, NoGang, StrayByte, OtherWord, FewFields, NoStation, NoCode, MoreStocks, MoreTurns}
+use Rattle.text.specs.Refusal.{numberOf}
+use Rattle.text.specs.Plan.{Held, Reading, plan, refused, reading}
 use Rattle.report.specs.Digits.{decimal, width}
 use Rattle.report.specs.Lines.{RUN, STOCK, ST, NO, line, refusalLine, runLine, stockLine, setShown, stationLine, mostRun, mostStock, mostStation, numbered}
 use Rattle.report.specs.declared.Printed.the-variants.{Whole}
 use Rattle.report.specs.Printed.{lines, report, reportOf, printed, mostPrinted, answerOf}
 use Rattle.report.proofs.Numerals.{digits-length, width-five}
-use Rattle.plan.proofs.Taken.{Sound, plan-sound, place-most}
+use Rattle.text.proofs.Taken.{Sound, plan-sound, place-most}
 
 decimal-most : (x : ℕ) → x < 100000 → length (decimal x) ≤ 5
 decimal-most x h = rw (digits-length 10 (width x) x) (width-five x h)

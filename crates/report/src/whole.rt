@@ -10,7 +10,7 @@ use super::lines::put_run;
 use super::listing::counted;
 use super::listing::put_stations;
 use super::listing::put_stocks;
-use plan::Answer;
+use text::Answer;
 
 // The report of a plan that was read: it is run, and the lines are put into the page.
 fn put_report(
@@ -68,7 +68,7 @@ pub fn print_plan(text: &[u8], out: &mut [u8]) -> Printed
             hand_out(&page[..end], out)
         }
         Answer::Refused { fault, place } => {
-            let end = put_refusal(&mut page, plan::number_of(fault) as u16, place as u16);
+            let end = put_refusal(&mut page, text::number_of(fault) as u16, place as u16);
             hand_out(&page[..end], out)
         }
     }

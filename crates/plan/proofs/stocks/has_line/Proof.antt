@@ -6,10 +6,10 @@ use native.Mathlib.Omega.{arith}
 use borrow.Author.Needs.{needs}
 use lib.ListN.{length-set}
 use lib.Seq.{length-take-le}
-use Rattle.plan.specs.Plan.{stocked}
-use Rattle.plan.specs.Window.{part}
+use Rattle.text.specs.Plan.{stocked}
+use Rattle.fields.specs.Window.{part}
 use Rattle.plan.specs.Hand.{codesIn}
-use Rattle.plan.proofs.Numbers.{number-most}
+use Rattle.text.proofs.Numbers.{number-most}
 use Rattle.plan.proofs.Coding.{stocks-gives, stocks-kept, refused-gives}
 use Rattle.plan.proofs.HasLines.{has-none, has-one, has-nobody, has-refused, has-taken}
 use Rattle.plan.proofs.stocks.has_line.Statement.{statement}
