@@ -7,4 +7,3 @@ pub mod Lengths
 pub mod SameStocks
 pub mod Outcomes
 pub mod Answers
-pub mod Taken

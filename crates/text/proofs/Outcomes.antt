@@ -1,12 +1,13 @@
 -- Totality, and what a plan that is taken holds. The theorems: `outcome`, every text gives a plan or one refusal of 11 to 19 at a place;
--- `sound`, the codes handed out are of 1 to 12 bytes, end in no space and no two are equal, and every turn is a station.
+-- `sound`, the codes handed out are of 1 to 12 bytes, end in no space and no two are equal, and every turn is a station; `place-most`, how far
+-- down a refusal can stand.
 use Prim.Native.Nat.{ℕ, zero, suc, _+_, _-_, _^_, _≤_, _<_, max, zero-le}
 use mathlib.Core.Path.{_≡_, refl, sym, ap, _∙_, subst}
 use mathlib.Core.Bool.{Bool, true, false, cond, not, true≢false}
 use mathlib.Core.List.{List, [], _∷_, _++_}
 use mathlib.Core.Logic.{⊎-elim}
 use native.Mathlib.Omega.{arith}
-use native.Mathlib.Nat.{eq-or-lt-of-le, lt-of-lt-of-le}
+use native.Mathlib.Nat.{eq-or-lt-of-le, lt-of-lt-of-le, le-refl}
 use lib.ListN.{length, getD, take, set, replicate, length-append, length-take, length-set, length-replicate, List·getD-append}
 use lib.Seq.{getD-at, getD-set-same, getD-set-other}
 use lib.Dec.{leb, ltb, eqb}
@@ -14,7 +15,7 @@ use lib.Pow.{pow-mono, pow-lt}
 use lib.Bits.{or-lt}
 use borrow.Author.Tests.{ltb-true, ltb-false, leb-true, eqb-true, eqb-false}
 use Rattle.text.specs.Limits.{mostBytes, mostStations, mostStocks, mostTurns, mostCode}
-use Rattle.text.specs.Text.{space, linesOf, fieldsOf, all, fine, run, runMore, same}
+use Rattle.text.specs.Text.{LF, space, joined, parted, linesOf, fieldsOf, all, fine, run, runMore, same}
 use Rattle.text.specs.Number.{empty, numberTo}
 use Rattle.text.specs.Code.{before, codeOf, stockOf}
 use Rattle.text.specs.Refusal.{numberOf}
@@ -344,3 +345,34 @@ sound text h e = by-cases (outcome text)
     by-cases (planned k p s) = subst Sound (let q : k ≡ h = cc in q) s
     by-cases (long fault p z) = let z : _≡_ {A = ℕ} 0 1 = cc in absurd (omega arith)
     by-cases (stopped fault line p a b c d) = let z : _≡_ {A = ℕ} 0 1 = cc in absurd (omega arith)
+
+-- ---- the place of a refusal
+
+onto-most : (t : Bool) (b : ℕ) (ps : List (List ℕ)) → length (joined t b ps) ≤ suc (length ps)
+onto-most true b ps = le-refl _
+onto-most false b [] = le-refl 1
+onto-most false b (p ∷ ps) = omega arith
+
+lines-most : (text : List ℕ) → length (linesOf text) ≤ length text
+unfolding parted
+lines-most [] = le-refl 0
+lines-most (b ∷ text) =
+    let ih : length (linesOf text) ≤ length text = lines-most text in
+    let m = onto-most (eqb b LF) b (linesOf text) in
+    omega arith
+
+pub place-most : (text : List ℕ) (fault : Fault) (p : ℕ) → reading text ≡ refused fault p → p ≤ 1 + mostBytes
+unfolding reading
+place-most text fault p e = by-cases (leb (length text) mostBytes) refl e (outcome text)
+  where
+    ended : length text ≤ mostBytes → Outcome text → p ≤ 1 + mostBytes
+    ended h (planned k q s) = let z : _≡_ {A = ℕ} 0 1 = cc in absurd (omega arith)
+    ended h (long f q z) = let w : p ≡ 0 = cc in omega arith
+    ended h (stopped f line q a b c d) =
+        let w : p ≡ line = cc in
+        let m = lines-most text in
+        omega arith
+
+    by-cases : (t : Bool) → leb (length text) mostBytes ≡ t → sized t text ≡ refused fault p → Outcome text → p ≤ 1 + mostBytes
+    by-cases true q e o = ended (leb-true (length text) mostBytes q) o
+    by-cases false q e o = let w : 0 ≡ p = cc in omega arith
