@@ -18,7 +18,7 @@ fn fine(b: u8) -> bool
 }
 
 // Where the bytes that a line may hold end, from `at` on: at the line's end, if the line holds no other.
-pub fn line_end(text: &[u8], at: usize) -> usize
+pub(super) fn line_end(text: &[u8], at: usize) -> usize
     ensures { λ r. ⌜ r ≡ at + run Text.fine (drop at (now (text .entry))) ⌝ }
 {
     let mut i = at;
@@ -33,7 +33,7 @@ pub fn line_end(text: &[u8], at: usize) -> usize
 }
 
 // Where the field at `at` ends: at its tab, or at the line's end.
-pub fn field_end(line: &[u8], at: usize) -> usize
+pub(super) fn field_end(line: &[u8], at: usize) -> usize
     ensures { λ r. ⌜ r ≡ at + run noTab (drop at (now (line .entry))) ⌝ }
 {
     let mut i = at;

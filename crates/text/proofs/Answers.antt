@@ -1,5 +1,6 @@
 -- An answer is fixed by what it says in document 01's numbers: `told-fixes`. For a caller of `read_plan`: an answer with counts is a plan that
--- was taken, `counts-told`, and an answer with a refusal is that refusal, `refusal-told`.
+-- was taken, `counts-told`, and an answer with a refusal is that refusal, `refusal-told`. A refused plan leaves every buffer as it was,
+-- `refused-out`.
 use Prim.Native.Nat.{ℕ, zero, suc, _-_}
 use mathlib.Core.Path.{_≡_, refl, sym, ap, _∙_}
 use mathlib.Core.List.{List}
