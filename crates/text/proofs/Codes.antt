@@ -1,9 +1,10 @@
 -- What is left of a field without the spaces at its end.
-use Prim.Native.Nat.{ℕ, suc, _<_}
+use Prim.Native.Nat.{ℕ, suc, _≤_, _<_}
 use mathlib.Core.Path.{_≡_, refl, sym, ap, _∙_}
 use mathlib.Core.Bool.{Bool, true, false}
 use mathlib.Core.List.{List, [], _∷_, _++_}
-use lib.ListN.{length, getD, take}
+use native.Mathlib.Omega.{arith}
+use lib.ListN.{length, getD, take, length-take}
 use lib.Seq.{take-suc}
 use lib.Dec.{eqb}
 use borrow.Author.Tests.{eq-eqb, ne-eqb}
@@ -45,3 +46,9 @@ pub code-front : (f : List ℕ) → codeOf f ≡ take (length (codeOf f)) f
 unfolding codeOf
 code-front [] = refl
 code-front (b ∷ f) = front-of (eqb b space) b (codeOf f) f (code-front f)
+
+pub code-short : (f : List ℕ) → length (codeOf f) ≤ length f
+code-short f =
+    let l : length (codeOf f) ≡ length (take (length (codeOf f)) f) = ap length (code-front f) in
+    let m = simp length-take at l in
+    omega arith

@@ -8,7 +8,7 @@ use mathlib.Core.List.{List, [], _∷_, _++_}
 use mathlib.Core.Logic.{⊎-elim}
 use native.Mathlib.Omega.{arith}
 use native.Mathlib.Nat.{eq-or-lt-of-le, lt-of-lt-of-le, le-refl}
-use lib.ListN.{length, getD, take, set, replicate, length-append, length-take, length-set, length-replicate, List·getD-append}
+use lib.ListN.{length, getD, set, replicate, length-append, length-set, length-replicate, List·getD-append}
 use lib.Seq.{getD-at, getD-set-same, getD-set-other}
 use lib.Dec.{leb, ltb, eqb}
 use lib.Pow.{pow-mono, pow-lt}
@@ -25,7 +25,7 @@ use Rattle.text.specs.declared.Word.{Word}
 use Rattle.text.specs.declared.Word.the-variants.{Has, Turn, Other}
 use Rattle.text.specs.declared.Fault.{Fault}
 use Rattle.text.specs.declared.Fault.the-variants.{LongText, StrayByte, NoCode, MoreStocks, MoreTurns}
-use Rattle.text.proofs.Codes.{code-front}
+use Rattle.text.proofs.Codes.{code-short}
 use Rattle.text.proofs.Pieces.{run-most}
 use Rattle.text.proofs.Numbers.{number-most}
 use Rattle.text.proofs.Runs.{same-self}
@@ -115,12 +115,6 @@ pub code-solid : (f : List ℕ) → endsInSpace (codeOf f) ≡ false
 unfolding codeOf endsInSpace
 code-solid [] = refl
 code-solid (b ∷ f) = solid-before b (codeOf f) (code-solid f)
-
-code-short : (f : List ℕ) → length (codeOf f) ≤ length f
-code-short f =
-    let l : length (codeOf f) ≡ length (take (length (codeOf f)) f) = ap length (code-front f) in
-    let m = simp length-take at l in
-    omega arith
 
 code-holds : (f : List ℕ) → Holds GoodCode (code f)
 unfolding code numberOf
