@@ -1,4 +1,4 @@
-/* The proved reader of the plan text, crates/plan: target/staticlib/libplan.a, as `rt staticlib plan` makes it. */
+/* The proved reader of the plan text as a call, crates/plancall: target/staticlib/libplancall.a, as `rt staticlib plancall` makes it. */
 #ifndef PLAN_H
 #define PLAN_H
 

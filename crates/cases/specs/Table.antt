@@ -17,12 +17,12 @@ use Rattle.turns.specs.Playing.{firstFrom}
 use Rattle.run.specs.Bytes.{bytesOf, numberIn, inputsIn}
 use Rattle.run.specs.Answer.{rowBytes, answerBytes}
 use Rattle.run.specs.Call.{firstBad, tests, firstUnwritten, verdictOf, returned, answered}
-use Rattle.plan.specs.Text.{parted, all, run, same}
-use Rattle.plan.specs.Number.{valueOn, numberTo}
-use Rattle.plan.specs.Code.{codeOf}
-use Rattle.plan.specs.Refusal.{numberOf}
-use Rattle.plan.specs.Plan.{each, station, takeTurn, takeCode, addStock, wordOf, hasLine, turnLine, laterLine, gangOf, firstLine, laterLines, reading}
-use Rattle.plan.specs.Plan as Plan
+use Rattle.text.specs.Text.{parted, all, run, same}
+use Rattle.text.specs.Number.{valueOn, numberTo}
+use Rattle.text.specs.Code.{codeOf}
+use Rattle.text.specs.Refusal.{numberOf}
+use Rattle.text.specs.Plan.{each, station, takeTurn, takeCode, addStock, wordOf, hasLine, turnLine, laterLine, gangOf, firstLine, laterLines, reading}
+use Rattle.text.specs.Plan as Plan
 use Rattle.report.specs.Digits.{digits, widthIn, width}
 use Rattle.report.specs.Lines.{line, refusalLine, runLine, stockLine, stationLine, numbered}
 use Rattle.report.specs.Printed.{lines, report, printed}

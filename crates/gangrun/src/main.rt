@@ -2,7 +2,7 @@
 ghost use mathlib.Core.Path.{_≡_};
 ghost use Prim.Native.Nat.{_+_};
 ghost use lib.ListN.{length};
-ghost use Rattle.plan.specs.Limits.{mostBytes};
+ghost use Rattle.text.specs.Limits.{mostBytes};
 ghost use Rattle.report.specs.Printed.{mostPrinted};
 use libc::STDIN_FILENO;
 use libc::STDOUT_FILENO;

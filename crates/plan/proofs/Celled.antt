@@ -5,29 +5,19 @@ use mathlib.Core.List.{List, [], _∷_, _++_, append-assoc, append-nil}
 use native.Mathlib.Omega.{arith}
 use native.Mathlib.Nat.{sub-zero, zero-sub, suc-sub-suc}
 use native.Mathlib.Numerals.{add-one}
-use lib.ListN.{length, getD, take, drop, set, length-append, length-replicate, replicate-append-replicate}
+use lib.ListN.{length, getD, take, drop, set, length-append, replicate-append-replicate}
 use lib.Seq.{take-append-seam, drop-append-add, take-length, paste, paste-suc}
-use Rattle.plan.specs.Limits.{mostStocks, mostCode}
-use Rattle.plan.specs.Window.{part}
+use Rattle.text.specs.Limits.{mostStocks, mostCode}
+use Rattle.fields.specs.Window.{part}
 use Rattle.plan.specs.Hand.{codeAt, codesIn, CellAt, CellsAt}
-use Rattle.plan.specs.Buffers.{zeros, padded, cellsOf}
+use Rattle.text.specs.Buffers.{zeros, padded, cellsOf}
+use Rattle.text.proofs.Lengths.{padded-long}
 use Rattle.plan.proofs.Windows.{part-at, part-length}
 
 drop-zeros : (n m : ℕ) → drop n (zeros m) ≡ zeros (m - n)
 drop-zeros zero m = ap zeros (sym (sub-zero m))
 drop-zeros (suc n) zero = ap zeros (sym (zero-sub (suc n)))
 drop-zeros (suc n) (suc m) = drop-zeros n m ∙ ap zeros (sym (suc-sub-suc m n))
-
-pub padded-none : (n : ℕ) → zeros n ≡ padded n []
-unfolding padded
-padded-none n = ap zeros (sym (sub-zero n))
-
-pub padded-long : (n : ℕ) (l : List ℕ) → length l ≤ n → length (padded n l) ≡ n
-unfolding padded
-padded-long n l h =
-    let a : length (padded n l) ≡ length l + length (zeros (n - length l)) = length-append l (zeros (n - length l)) in
-    let r : length (zeros (n - length l)) ≡ n - length l = length-replicate (n - length l) 0 in
-    omega arith
 
 -- one byte more of a code
 pub byte-more : (text : List ℕ) (start len at : ℕ) (cells : List ℕ) (i : ℕ) → CellAt text start len at cells → i < len

@@ -4,19 +4,19 @@ use mathlib.Core.Path.{_≡_, refl, sym, ap, _∙_, subst}
 use mathlib.Core.Bool.{true, false, cond}
 use mathlib.Core.List.{List, [], _∷_}
 use native.Mathlib.Omega.{arith}
-use lib.ListN.{length, take, length-take}
+use lib.ListN.{length, take}
 use borrow.Author.Tests.{le-leb, lt-leb}
-use Rattle.plan.specs.Limits.{mostCode}
-use Rattle.plan.specs.Number.{empty}
-use Rattle.plan.specs.Code.{codeOf}
-use Rattle.plan.specs.Plan.{Out, taken, no, code, Holding, holding, addStock, takeCode}
-use Rattle.plan.specs.Window.{part}
+use Rattle.text.specs.Limits.{mostCode}
+use Rattle.text.specs.Number.{empty}
+use Rattle.text.specs.Code.{codeOf}
+use Rattle.text.specs.Plan.{Out, taken, no, code, Holding, holding, addStock, takeCode}
+use Rattle.fields.specs.Window.{part}
 use Rattle.plan.specs.Hand.{codesIn, Table, CodedRead}
 use Rattle.plan.specs.declared.Coded.{Coded}
 use Rattle.plan.specs.declared.Coded.the-variants.{Stocks, Refused}
-use Rattle.plan.specs.declared.Fault.{Fault}
-use Rattle.plan.specs.declared.Fault.the-variants.{NoCode}
-use Rattle.plan.proofs.Codes.{code-front}
+use Rattle.text.specs.declared.Fault.{Fault}
+use Rattle.text.specs.declared.Fault.the-variants.{NoCode}
+use Rattle.text.proofs.Codes.{code-front, code-short}
 use Rattle.plan.proofs.Windows.{part-length, part-front}
 
 module _ (h : Holding) (f : List ℕ) where
@@ -51,9 +51,7 @@ module _ (text : List ℕ) (at end : ℕ) (window : at ≤ end) (inside : end �
   -- what is left of the field, as a part of the text
   pub code-part : (n : ℕ) → n ≡ length (codeOf (part text at end)) → codeOf (part text at end) ≡ part text at (at + n)
   code-part n e =
-      let c : List ℕ = codeOf (part text at end) in
-      let l : length (take (length c) (part text at end)) ≡ length c = ap length (sym (code-front (part text at end))) in
-      let m = simp length-take at l in
+      let m = code-short (part text at end) in
       let f : length (part text at end) ≡ end - at = field-length in
       code-front (part text at end)
       ∙ ap (λ (k : ℕ). take k (part text at end)) (sym e)
@@ -61,9 +59,7 @@ module _ (text : List ℕ) (at end : ℕ) (window : at ≤ end) (inside : end �
 
   pub code-most : (n : ℕ) → n ≡ length (codeOf (part text at end)) → at + n ≤ end
   code-most n e =
-      let c : List ℕ = codeOf (part text at end) in
-      let l : length (take (length c) (part text at end)) ≡ length c = ap length (sym (code-front (part text at end))) in
-      let m = simp length-take at l in
+      let m = code-short (part text at end) in
       let f : length (part text at end) ≡ end - at = field-length in
       omega arith
 

@@ -5,10 +5,10 @@ use mathlib.Core.Bool.{Bool, cond}
 use mathlib.Core.List.{List, []}
 use lib.ListN.{length, take, drop}
 use borrow.Author.Tests.{le-leb, lt-leb}
-use Rattle.plan.specs.Text.{fieldsOf, run}
-use Rattle.plan.specs.Plan.{Out, taken, no, then, each}
-use Rattle.plan.specs.Window.{part, noTab, fieldsFrom}
-use Rattle.plan.specs.declared.Fault.{Fault}
+use Rattle.text.specs.Text.{fieldsOf, run}
+use Rattle.text.specs.Plan.{Out, taken, no, then, each}
+use Rattle.fields.specs.Window.{part, noTab, fieldsFrom}
+use Rattle.text.specs.declared.Fault.{Fault}
 use Rattle.plan.proofs.Windows.{fields-step}
 
 pub fields-none : (text : List ℕ) (i end : ℕ) → end < i → fieldsFrom text i end ≡ []

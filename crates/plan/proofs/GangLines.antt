@@ -1,16 +1,15 @@
 -- Line 1: `GANG` and one number.
 use Prim.Native.Nat.{ℕ, _+_, _≤_, _<_, zero-le}
 use mathlib.Core.Path.{_≡_, refl, sym, ap, _∙_}
-use mathlib.Core.Bool.{Bool, true, false, cond}
+use mathlib.Core.Bool.{true, false}
 use mathlib.Core.List.{List, [], _∷_}
 use native.Mathlib.Omega.{arith}
 use lib.ListN.{length, take, drop}
-use Rattle.plan.specs.Limits.{mostStations}
-use Rattle.plan.specs.Text.{run, same}
-use Rattle.plan.specs.Number.{numberTo}
-use Rattle.plan.specs.Plan.{GANG, gangOf}
-use Rattle.plan.specs.Window.{part, noTab, fieldsFrom}
-use Rattle.plan.proofs.Numbers.{number-most}
+use Rattle.text.specs.Limits.{mostStations}
+use Rattle.text.specs.Text.{run, same}
+use Rattle.text.specs.Number.{numberTo}
+use Rattle.text.specs.Plan.{GANG, gangOf}
+use Rattle.fields.specs.Window.{part, noTab, fieldsFrom}
 use Rattle.plan.proofs.Windows.{fields-step}
 use Rattle.plan.proofs.Fields.{fields-none}
 
@@ -43,14 +42,3 @@ module _ (text : List ℕ) (end : ℕ) (inside : end ≤ length text) (e : ℕ) 
     pub gang-is : end ≤ f → same (part text 0 e) GANG ≡ true → numberTo mostStations (part text (e + 1) f) ≡ gangOf (fieldsFrom text 0 end)
     unfolding gangOf
     gang-is h w = sym (rw (opened, second, fields-none text (f + 1) end (omega arith), w))
-
-pub gang-most : (fs : List (List ℕ)) → gangOf fs ≤ mostStations
-unfolding gangOf
-gang-most [] = zero-le
-gang-most (w ∷ []) = zero-le
-gang-most (w ∷ f ∷ []) = by-cases (same w GANG)
-  where
-    by-cases : (t : Bool) → cond t (numberTo mostStations f) 0 ≤ mostStations
-    by-cases true = number-most mostStations f
-    by-cases false = zero-le
-gang-most (w ∷ f ∷ g ∷ gs) = zero-le

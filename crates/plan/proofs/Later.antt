@@ -10,13 +10,13 @@ use mathlib.Core.Logic.{⊎-elim}
 use lib.ListN.{length, getD, drop, drop-of-length-le}
 use lib.Dec.{ltb, eqb}
 use borrow.Author.Tests.{ltb-true, lt-ltb, eqb-true, eqb-false, not-true, not-false}
-use Rattle.plan.specs.Text.{LF, parted, linesOf, fine, run}
-use Rattle.plan.specs.Plan.{Out, taken, no, Held, fresh, laterFields, laterLine, firstLine, gangIn, gangOf, Reading, plan, refused, atLine, laterLines, allLines}
-use Rattle.plan.specs.Window.{fieldsFrom, strays}
-use Rattle.plan.specs.declared.Fault.{Fault}
-use Rattle.plan.specs.declared.Fault.the-variants.{StrayByte, NoGang}
-use Rattle.plan.proofs.Runs.{both-true}
-use Rattle.plan.proofs.Pieces.{run-most}
+use Rattle.text.specs.Text.{LF, parted, linesOf, fine, run}
+use Rattle.text.specs.Plan.{Out, taken, no, Held, fresh, laterFields, laterLine, firstLine, gangIn, gangOf, Reading, plan, refused, atLine, laterLines, allLines}
+use Rattle.fields.specs.Window.{fieldsFrom, strays}
+use Rattle.text.specs.declared.Fault.{Fault}
+use Rattle.text.specs.declared.Fault.the-variants.{StrayByte, NoGang}
+use Rattle.text.proofs.Runs.{both-true}
+use Rattle.text.proofs.Pieces.{run-most}
 use Rattle.plan.proofs.Windows.{lines-step, line-fine, line-strays}
 use Rattle.plan.proofs.Fields.{fields-here}
 

@@ -1,6 +1,4 @@
 -- Laws that belong to no one function.
-pub mod Runs
-pub mod Pieces
 pub mod Windows
 pub mod Fields
 pub mod Turned
@@ -12,12 +10,3 @@ pub mod LineWays
 pub mod Later
 pub mod Celled
 pub mod Whole
-pub mod SameStocks
-pub mod Outcomes
-pub mod Answers
-pub mod Numbers
-pub mod Codes
-pub mod Held
-pub mod ToEnd
-pub mod Through
-pub mod Taken

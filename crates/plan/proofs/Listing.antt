@@ -1,7 +1,7 @@
 -- The table of codes: what it stands for, looking a code up, and one more.
 use Prim.Native.Nat.{ℕ, zero, suc, _+_, _-_, _≤_, _<_}
 use mathlib.Core.Path.{_≡_, refl, sym, ap, _∙_, subst}
-use mathlib.Core.Bool.{Bool, true, false, not, true≢false}
+use mathlib.Core.Bool.{true, false, not}
 use mathlib.Core.List.{List, [], _∷_, _++_}
 use mathlib.Core.Logic.{⊎-elim}
 use native.Mathlib.Omega.{arith}
@@ -9,43 +9,18 @@ use native.Mathlib.Nat.{eq-or-lt-of-le}
 use native.Mathlib.Numerals.{add-one}
 use lib.ListN.{length, getD, drop, set, length-append, length-set, List·getD-append}
 use lib.Seq.{getD-at, getD-set-same, getD-set-other}
-use lib.Dec.{eqb}
-use borrow.Author.Tests.{eqb-true, eq-eqb, lt-ltb, le-ltb}
-use Rattle.plan.specs.Limits.{mostStocks, mostCode}
-use Rattle.plan.specs.Text.{same}
-use Rattle.plan.specs.Code.{stockOf}
-use Rattle.plan.specs.Plan.{taken, no, holding, withStock, stockAt, addStock}
-use Rattle.plan.specs.Window.{part}
-use Rattle.plan.specs.Hand.{keyOn, codeAt, codesIn, Entry, Table, Listed, CodedRead}
+use borrow.Author.Tests.{lt-ltb, le-ltb}
+use Rattle.text.specs.Limits.{mostStocks, mostCode}
+use Rattle.text.specs.Text.{same}
+use Rattle.text.specs.Code.{stockOf}
+use Rattle.text.specs.Plan.{taken, no, holding, withStock, stockAt, addStock}
+use Rattle.fields.specs.Window.{part}
+use Rattle.fields.specs.Key.{keyOn}
+use Rattle.plan.specs.Hand.{codeAt, codesIn, Entry, Table, Listed, CodedRead}
 use Rattle.plan.specs.declared.Coded.the-variants.{Stocks, Refused}
-use Rattle.plan.specs.declared.Fault.the-variants.{MoreStocks}
-use Rattle.plan.proofs.Runs.{both-true, run-on, run-stops, run-ends}
-use Rattle.plan.proofs.Pieces.{run-most}
-
--- ---- the same bytes
-
-pub same-is : (a b : List ℕ) → same a b ≡ true → a ≡ b
-unfolding same
-same-is [] [] e = refl
-same-is [] (b ∷ bs) e = absurd (true≢false (sym e))
-same-is (a ∷ xs) [] e = absurd (true≢false (sym e))
-same-is (a ∷ xs) (b ∷ ys) e =
-    let h = both-true (eqb a b) (same xs ys) e in
-    let p : a ≡ b = eqb-true a b (h .0) in
-    let q : xs ≡ ys = same-is xs ys (h .1) in
-    rw (p, q)
-
-pub same-self : (a : List ℕ) → same a a ≡ true
-unfolding same
-same-self [] = refl
-same-self (a ∷ xs) = rw (eq-eqb a a refl, same-self xs)
-
-pub same-not : (a b : List ℕ) → (a ≡ b → ⊥) → same a b ≡ false
-same-not a b h = by-cases (same a b) refl
-  where
-    by-cases : (t : Bool) → same a b ≡ t → same a b ≡ false
-    by-cases true e = absurd (h (same-is a b e))
-    by-cases false e = e
+use Rattle.text.specs.declared.Fault.the-variants.{MoreStocks}
+use Rattle.text.proofs.Runs.{run-on, run-stops, run-ends}
+use Rattle.text.proofs.Pieces.{run-most}
 
 -- ---- the codes of a table
 

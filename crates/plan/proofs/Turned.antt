@@ -9,15 +9,15 @@ use lib.ListN.{length, take, drop, set, length-set}
 use lib.Seq.{take-suc-set, getD-set-other, length-take-le}
 use lib.Dec.{ltb}
 use borrow.Author.Tests.{lt-ltb, le-ltb}
-use Rattle.plan.specs.Text.{run}
-use Rattle.plan.specs.Limits.{mostTurns}
-use Rattle.plan.specs.Number.{numberTo}
-use Rattle.plan.specs.Plan.{Out, taken, no, then, each, stationIn, station, takeTurn, turnLine}
+use Rattle.text.specs.Text.{run}
+use Rattle.text.specs.Limits.{mostTurns}
+use Rattle.text.specs.Number.{numberTo}
+use Rattle.text.specs.Plan.{Out, taken, no, then, each, stationIn, station, takeTurn, turnLine}
 use Rattle.plan.specs.Hand.{TurnsIn}
-use Rattle.plan.specs.Window.{noTab, fieldsFrom}
+use Rattle.fields.specs.Window.{noTab, fieldsFrom}
 use Rattle.plan.proofs.Windows.{fields-step}
 use Rattle.plan.proofs.Fields.{fields-none}
-use Rattle.plan.specs.declared.Fault.the-variants.{FewFields, NoStation, MoreTurns}
+use Rattle.text.specs.declared.Fault.the-variants.{FewFields, NoStation, MoreTurns}
 
 -- a station field, by its number
 pub station-none : (n : ℕ) (f : List ℕ) (s : ℕ) → s ≡ numberTo n f → s ≡ 0 → station n f ≡ no NoStation

@@ -1,41 +1,23 @@
 -- The plan as a whole: nothing in hand at the start, and what the buffers hold at the end.
-use Prim.Native.Nat.{ℕ, zero, suc, _+_, _-_, _*_, _≤_, _<_, zero-le}
+use Prim.Native.Nat.{ℕ, zero, suc, _+_, _-_, _*_, _≤_, zero-le}
 use mathlib.Core.Path.{_≡_, refl, sym, ap, _∙_, subst}
-use mathlib.Core.Bool.{Bool}
 use mathlib.Core.List.{List, [], _∷_, _++_, map}
 use native.Mathlib.Omega.{arith}
 use lib.ListN.{length, getD, take, drop, length-drop, length-replicate, take-append-drop}
 use lib.Seq.{getD-drop, take-suc, length-take-le}
-use borrow.Author.Tests.{le-leb, lt-leb}
-use Rattle.plan.specs.Limits.{mostBytes, mostStations, mostStocks, mostTurns, mostCode}
-use Rattle.plan.specs.Text.{linesOf}
-use Rattle.plan.specs.Refusal.{counts, refusal, numberOf}
-use Rattle.plan.specs.Plan.{Reading, plan, refused, allLines, sized, reading}
+use Rattle.text.specs.Limits.{mostStations, mostStocks, mostTurns, mostCode}
+use Rattle.text.specs.Refusal.{counts}
+use Rattle.text.specs.Plan.{Reading, plan, refused}
 use Rattle.plan.specs.Hand.{codeAt, codesIn, Hand, hand, heldOf, PlanIn, PlanRead, Clear, CellsAt}
-use Rattle.plan.specs.Buffers.{zeros, padded, cellsOf, toldOf, setsAfter, codesAfter, lensAfter, turnsAfter}
-use Rattle.plan.specs.declared.Fault.{Fault}
-use Rattle.plan.specs.declared.Fault.the-variants.{LongText}
-use Rattle.plan.specs.declared.Answer.{Answer}
-use Rattle.plan.specs.declared.Answer.the-variants.{Plan, Refused}
+use Rattle.text.specs.Buffers.{zeros, padded, cellsOf, toldOf, setsAfter, codesAfter, lensAfter, turnsAfter}
+use Rattle.text.specs.declared.Fault.{Fault}
+use Rattle.text.specs.declared.Answer.{Answer}
+use Rattle.text.specs.declared.Answer.the-variants.{Plan, Refused}
 use Rattle.plan.proofs.Listing.{codes-length}
-use Rattle.plan.proofs.Celled.{code-length, padded-none}
-
--- ---- the length of the text
-
-pub too-long : (text : List ℕ) → mostBytes < length text → refused LongText 0 ≡ reading text
-unfolding reading
-too-long text h = sym (ap (λ (t : Bool). sized t text) (lt-leb (length text) mostBytes h))
-
-pub not-too-long : (text : List ℕ) → length text ≤ mostBytes → allLines (linesOf text) ≡ reading text
-unfolding reading
-not-too-long text h = sym (ap (λ (t : Bool). sized t text) (le-leb (length text) mostBytes h))
+use Rattle.text.proofs.Lengths.{zeros-at, padded-none}
+use Rattle.plan.proofs.Celled.{code-length}
 
 -- ---- nothing in hand
-
-pub zeros-at : (n j : ℕ) → getD (zeros n) j 0 ≡ 0
-zeros-at zero j = refl
-zeros-at (suc n) zero = refl
-zeros-at (suc n) (suc j) = zeros-at n j
 
 pub clear : (text : List ℕ) → Clear text (hand (zeros mostStations) (zeros mostStocks) (zeros mostStocks) (zeros mostStocks) (zeros mostTurns))
 clear text =
@@ -132,24 +114,6 @@ module _ (text : List ℕ) (n : ℕ) (b : Hand) (stocks turned : ℕ) (h : PlanI
       ),
     ),
   )
-
--- a plan that is refused: the answer, and every buffer as it was
-pub refused-out : (out : Reading) (fault : Fault) (place : ℕ) → refused fault place ≡ out → (sets codes lens turns : List ℕ)
-    → (refusal (numberOf fault) place ≡ toldOf out)
-    × ((sets ≡ setsAfter out sets) × ((codes ≡ codesAfter out codes) × ((lens ≡ lensAfter out lens) × (turns ≡ turnsAfter out turns))))
-refused-out out fault place e sets codes lens turns = (
-  ap toldOf e,
-  (
-    ap (λ (o : Reading). setsAfter o sets) e,
-    (
-      ap (λ (o : Reading). codesAfter o codes) e,
-      (
-        ap (λ (o : Reading). lensAfter o lens) e,
-        ap (λ (o : Reading). turnsAfter o turns) e,
-      ),
-    ),
-  ),
-)
 
 -- ---- a result of a known kind
 

@@ -10,9 +10,9 @@ use lib.ListN.{length, getD, take, drop, length-take, length-drop, drop-of-lengt
 use lib.Seq.{take-nil, take-take, take-all, drop-drop, getD-drop, getD-take, length-take-le}
 use lib.Dec.{leb, eqb}
 use borrow.Author.Tests.{le-leb, lt-leb, eqb-true, not-false}
-use Rattle.plan.specs.Text.{LF, tab, parted, linesOf, fieldsOf, all, fine, run}
-use Rattle.plan.specs.Window.{part, noTab, fieldsFrom}
-use Rattle.plan.proofs.Pieces.{run-most, run-passes, run-fails, cut, whole, strays}
+use Rattle.text.specs.Text.{LF, tab, parted, linesOf, fieldsOf, all, fine, run}
+use Rattle.fields.specs.Window.{part, noTab, fieldsFrom}
+use Rattle.text.proofs.Pieces.{run-most, run-passes, run-fails, cut, whole, strays}
 
 pub drop-take : (i e : ℕ) (l : List ℕ) → drop i (take e l) ≡ part l i e
 drop-take zero e l = ap (λ (k : ℕ). take k l) (sym (sub-zero e))

@@ -1,25 +1,21 @@
 -- What the code has in hand while it reads: buffers with counts, and what they stand for.
-use Prim.Native.Nat.{ℕ, zero, suc, _+_, _*_, _%_, _^_, _≤_, _<_}
+use Prim.Native.Nat.{ℕ, zero, suc, _+_, _*_, _≤_, _<_}
 use mathlib.Core.Path.{_≡_}
 use mathlib.Core.List.{List, [], _∷_, _++_}
 use lib.ListN.{length, getD, take, replicate}
-use Rattle.plan.specs.Limits.{mostStations, mostStocks, mostTurns, mostCode}
-use Rattle.plan.specs.Window.{part}
-use Rattle.plan.specs.Buffers.{padded}
-use Rattle.plan.specs.Plan.{Out, taken, no, Holding, holding, Stocked, stocked, Held, held, Reading, plan, refused}
-use Rattle.plan.specs.declared.Answer.{Answer}
-use Rattle.plan.specs.declared.Answer.the-variants.{Plan, Refused as Nay}
+use Rattle.text.specs.Limits.{mostStations, mostStocks, mostTurns, mostCode}
+use Rattle.fields.specs.Window.{part}
+use Rattle.fields.specs.Key.{keyOn}
+use Rattle.text.specs.Buffers.{padded}
+use Rattle.text.specs.Plan.{Out, taken, no, Holding, holding, Stocked, stocked, Held, held, Reading, plan, refused}
+use Rattle.text.specs.declared.Answer.{Answer}
+use Rattle.text.specs.declared.Answer.the-variants.{Plan, Refused as Nay}
 use Rattle.plan.specs.declared.Line.{Line}
 use Rattle.plan.specs.declared.Line.the-variants.{More, Refused as Bad}
 use Rattle.plan.specs.declared.Coded.{Coded}
 use Rattle.plan.specs.declared.Coded.the-variants.{Stocks, Refused as No}
 use Rattle.plan.specs.declared.Counted.{Counted}
 use Rattle.plan.specs.declared.Counted.the-variants.{Count, Refused}
-
--- a key of a code: its last eight bytes. Different keys, different codes
-unfoldable pub keyOn : ℕ → List ℕ → ℕ
-keyOn k [] = k
-keyOn k (b ∷ bs) = keyOn (k % 2 ^ 56 * 256 + b) bs
 
 -- ---- turns: the first `count` bytes of the buffer; the rest are 0
 

@@ -2,13 +2,13 @@
 ghost use mathlib.Core.Path.{_≡_};
 ghost use Prim.Native.Nat.{_+_, _*_};
 ghost use lib.Seq.{paste};
-ghost use Rattle.plan.specs.Limits.{mostStocks, mostCode};
-ghost use Rattle.plan.specs.Window.{part};
+ghost use Rattle.text.specs.Limits.{mostStocks, mostCode};
+ghost use Rattle.fields.specs.Window.{part};
 ghost use Rattle.plan.specs.Hand.{codesIn, CellAt, CellsAt};
-ghost use Rattle.plan.specs.Buffers.{padded, cellsOf};
-use super::limits::CELLS;
-use super::limits::CODE;
-use super::limits::STOCKS;
+ghost use Rattle.text.specs.Buffers.{padded, cellsOf};
+use text::limits::CELLS;
+use text::limits::CODE;
+use text::limits::STOCKS;
 
 // The `len` bytes of the text from `from` on, to place `at` of the cells.
 fn put_code(text: &[u8], from: usize, len: usize, at: usize, cells: &mut [u8; CELLS])

@@ -1,57 +1,17 @@
-// The plan text: read into stations, stocks and turns, or refused at its place.
+// A plan text, read into stations, stocks and turns, or refused at its place.
 ghost use mathlib.Core.Path.{_≡_};
-ghost use Rattle.plan.specs.Refusal.{numberOf, told};
-ghost use Rattle.plan.specs.Plan.{reading};
-ghost use Rattle.plan.specs.Buffers.{toldOf, setsAfter, codesAfter, lensAfter, turnsAfter};
+ghost use Rattle.text.specs.Refusal.{told};
+ghost use Rattle.text.specs.Plan.{reading};
+ghost use Rattle.text.specs.Buffers.{toldOf, setsAfter, codesAfter, lensAfter, turnsAfter};
 use cells::put_codes;
-use limits::BYTES;
-use limits::CELLS;
-use limits::STATIONS;
-use limits::STOCKS;
-use limits::TURNS;
 use lines::all_lines;
-
-// The rows of document 01's table, each with its number there.
-pub enum Fault {
-    // 11: text above 32,768 bytes
-    LongText,
-    // 12: no line 1, or line 1 is not GANG and one number from 1 to 16
-    NoGang,
-    // 13: the line holds a byte other than tab and 20 to 7E hex
-    StrayByte,
-    // 14: a later line has another first field
-    OtherWord,
-    // 15: HAS with fewer than two further fields, TURN with none
-    FewFields,
-    // 16: a station field is no number from 1 to n
-    NoStation,
-    // 17: a code field is over 12 bytes, or has nothing left without its spaces
-    NoCode,
-    // 18: a 65th stock
-    MoreStocks,
-    // 19: a 4,097th turn
-    MoreTurns,
-}
-
-// A plan that was read, by its counts; or the one refusal, at its place.
-pub enum Answer {
-    Plan {
-        stations: u8,
-        stocks: usize,
-        turns: usize,
-    },
-    Refused {
-        fault: Fault,
-        place: usize,
-    },
-}
-
-// The first field of a later line.
-enum Word {
-    Has,
-    Turn,
-    Other,
-}
+use text::Answer;
+use text::Fault;
+use text::limits::BYTES;
+use text::limits::CELLS;
+use text::limits::STATIONS;
+use text::limits::STOCKS;
+use text::limits::TURNS;
 
 // What a line's word gives: how many there are now, or what it is refused for.
 enum Counted {
@@ -71,33 +31,10 @@ enum Line {
     Refused(Fault),
 }
 
-mod call;
 mod cells;
-mod code;
-pub mod limits;
 mod lines;
-mod number;
-mod reader;
-mod scan;
 mod stocks;
 mod turns;
-
-// The number of a refusal in document 01's table.
-pub fn number_of(fault: Fault) -> u8
-    ensures { λ r. ⌜ r ≡ numberOf fault ⌝ }
-{
-    match fault {
-        Fault::LongText => 11,
-        Fault::NoGang => 12,
-        Fault::StrayByte => 13,
-        Fault::OtherWord => 14,
-        Fault::FewFields => 15,
-        Fault::NoStation => 16,
-        Fault::NoCode => 17,
-        Fault::MoreStocks => 18,
-        Fault::MoreTurns => 19,
-    }
-}
 
 // Reads the plan. A plan that is taken is handed out whole: the input set of each station, bit b for stock b; the codes, in cells of
 // 12 bytes, and their lengths; the turns. Of a plan that is refused nothing is handed out. It is read into arrays of its own, and

@@ -2,50 +2,27 @@
 ghost use mathlib.Core.Path.{_≡_};
 ghost use Prim.Native.Nat.{_≤_};
 ghost use lib.ListN.{length, drop};
-ghost use Rattle.plan.specs.Text.{linesOf};
-ghost use Rattle.plan.specs.Plan.{wordOf, gangOf, laterFields, laterLines, allLines};
-ghost use Rattle.plan.specs.Window as Window;
-ghost use Rattle.plan.specs.Window.{fieldsFrom};
+ghost use Rattle.text.specs.Text.{linesOf};
+ghost use Rattle.text.specs.Plan.{gangOf, laterFields, laterLines, allLines};
+ghost use Rattle.fields.specs.Window.{fieldsFrom};
 ghost use Rattle.plan.specs.Hand.{hand, heldOf, PlanIn, LineAt, LineRead, PlanRead, Clear};
-use super::Answer;
 use super::Counted;
-use super::Fault;
 use super::Line;
-use super::Word;
-use super::limits::LAST_STATION;
-use super::limits::STATIONS;
-use super::limits::STOCKS;
-use super::limits::TURNS;
-use super::number::number;
-use super::reader::field_end;
-use super::reader::line_end;
-use super::scan::same;
 use super::stocks::has_line;
 use super::turns::turn_line;
-
-// Whether the byte at `end` is there and ends no line.
-fn strays(text: &[u8], end: usize) -> bool
-    ensures { λ r. ⌜ r ≡ Window.strays (now (text .entry)) end ⌝ }
-{
-    if end < text.len() {
-        text[end] != b'\n'
-    } else {
-        false
-    }
-}
-
-// The first field of a later line.
-fn word(field: &[u8]) -> Word
-    ensures { λ r. ⌜ r ≡ wordOf (now (field .entry)) ⌝ }
-{
-    if same(field, b"HAS") {
-        return Word::Has;
-    }
-    if same(field, b"TURN") {
-        return Word::Turn;
-    }
-    Word::Other
-}
+use fields::number::number;
+use fields::reader::field_end;
+use fields::reader::line_end;
+use fields::scan::same;
+use fields::scan::strays;
+use fields::words::word;
+use text::Answer;
+use text::Fault;
+use text::Word;
+use text::limits::LAST_STATION;
+use text::limits::STATIONS;
+use text::limits::STOCKS;
+use text::limits::TURNS;
 
 // n, where the line up to `end` is `GANG` and one number from 1 to 16; else 0.
 fn gang(text: &[u8], end: usize) -> u8

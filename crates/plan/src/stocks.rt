@@ -1,23 +1,23 @@
 // `HAS`: a station, and each further field is a code. Codes in hand are places and lengths in the text, each with a key.
 ghost use mathlib.Core.Path.{_≡_};
 ghost use Prim.Native.Nat.{_+_, _≤_, _<_};
-ghost use Rattle.plan.specs.Limits.{mostStocks, mostCode};
-ghost use Rattle.plan.specs.Text as Text;
-ghost use Rattle.plan.specs.Code.{stockOf};
-ghost use Rattle.plan.specs.Plan.{each, holding, withStock, addStock, takeCode, stocked, hasLine};
-ghost use Rattle.plan.specs.Window.{part, fieldsFrom};
+ghost use Rattle.text.specs.Limits.{mostStocks, mostCode};
+ghost use Rattle.text.specs.Text as Text;
+ghost use Rattle.text.specs.Code.{stockOf};
+ghost use Rattle.text.specs.Plan.{each, holding, withStock, addStock, takeCode, stocked, hasLine};
+ghost use Rattle.fields.specs.Window.{part, fieldsFrom};
 ghost use Rattle.plan.specs.Hand.{codeAt, codesIn, Beside, Known, Listed, CodedRead, CodesAt, HasAt, StockedRead};
 use super::Coded;
 use super::Counted;
-use super::Fault;
-use super::code::code_len;
-use super::code::key_of;
-use super::limits::CODE;
-use super::limits::STATIONS;
-use super::limits::STOCKS;
-use super::number::number;
-use super::reader::field_end;
-use super::scan::same;
+use fields::code::code_len;
+use fields::code::key_of;
+use fields::number::number;
+use fields::reader::field_end;
+use fields::scan::same;
+use text::Fault;
+use text::limits::CODE;
+use text::limits::STATIONS;
+use text::limits::STOCKS;
 
 // The set with stock k.
 fn with_stock(set: u64, k: usize) -> u64

@@ -1,13 +1,13 @@
 // `TURN`: each further field is a turn.
 ghost use lib.ListN.{take};
-ghost use Rattle.plan.specs.Plan.{each, takeTurn, turnLine};
-ghost use Rattle.plan.specs.Window.{fieldsFrom};
+ghost use Rattle.text.specs.Plan.{each, takeTurn, turnLine};
+ghost use Rattle.fields.specs.Window.{fieldsFrom};
 ghost use Rattle.plan.specs.Hand.{TurnsAt, TurnsRead};
 use super::Counted;
-use super::Fault;
-use super::limits::TURNS;
-use super::number::number;
-use super::reader::field_end;
+use fields::number::number;
+use fields::reader::field_end;
+use text::Fault;
+use text::limits::TURNS;
 
 // The fields from `at` to the line's end, each put at the end of the turns.
 fn turns_from(

@@ -9,7 +9,7 @@ use Rattle.method.specs.declared.Row.{Row}
 use Rattle.method.specs.Demand.{isSettled}
 use Rattle.run.specs.declared.shown.Shown.{Shown}
 use Rattle.run.specs.Answer.{shownOf}
-use Rattle.plan.specs.Text.{LF, tab}
+use Rattle.text.specs.Text.{LF, tab}
 use Rattle.report.specs.Digits.{decimal}
 use Rattle.report.specs.Lines.{RUN, STOCK, ST, NO, line, refusalLine, runLine, stockLine, setShown, stationLine}
 use Rattle.report.specs.Put.{Put}

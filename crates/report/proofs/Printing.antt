@@ -6,19 +6,20 @@ use native.Mathlib.Nat.{add-zero}
 use native.Mathlib.Omega.{arith}
 use lib.ListN.{length, getD, take, drop, length-append, length-map, List·getD-append}
 use lib.Seq.{sets, length-sets, length-take-le, take-at, drop-at, getD-drop, drop-drop, take-append-seam}
-use Rattle.plan.specs.Limits.{mostStocks, mostTurns, mostCode}
-use Rattle.plan.specs.declared.Fault.{Fault}
-use Rattle.plan.specs.declared.Answer.{Answer}
-use Rattle.plan.specs.declared.Answer.the-variants.{Plan, Refused}
-use Rattle.plan.specs.Refusal.{counts, refusal, numberOf, told}
-use Rattle.plan.specs.Buffers.{zeros, padded, cellsOf, toldOf, setsAfter, codesAfter, lensAfter, turnsAfter}
-use Rattle.plan.specs.Plan.{Held, Reading, plan, refused, reading}
-use Rattle.plan.proofs.Celled.{padded-long}
+use Rattle.text.specs.Limits.{mostStocks, mostTurns, mostCode}
+use Rattle.text.specs.declared.Fault.{Fault}
+use Rattle.text.specs.declared.Answer.{Answer}
+use Rattle.text.specs.declared.Answer.the-variants.{Plan, Refused}
+use Rattle.text.specs.Refusal.{counts, refusal, numberOf, told}
+use Rattle.text.specs.Buffers.{zeros, padded, cellsOf, toldOf, setsAfter, codesAfter, lensAfter, turnsAfter}
+use Rattle.text.specs.Plan.{Held, Reading, plan, refused, reading}
+use Rattle.text.proofs.Lengths.{padded-long}
 use Rattle.report.specs.declared.Printed.{Printed}
 use Rattle.report.specs.Lines.{refusalLine}
 use Rattle.report.specs.Printed.{report, printed, mostPrinted, answerOf, bufferOf}
 use Rattle.report.specs.Put.{Put, Ready, codesFrom}
-use Rattle.plan.proofs.Taken.{Sound, plan-sound, place-most}
+use Rattle.text.specs.Sound.{Sound}
+use Rattle.text.proofs.Outcomes.{sound as plan-sound, place-most}
 use Rattle.report.proofs.Running.{all-stations}
 use Rattle.report.proofs.Handing.{put-front}
 use Rattle.report.proofs.Sizes.{printed-most}
@@ -110,23 +111,23 @@ module _ {text : List ℕ} {n stocks turned : ℕ} {sets cells lens turns : List
 
   cells-of : length (cellsOf (r .of .stocks .codes)) ≤ mostStocks * mostCode
   cells-of =
-      let l = cells-length (r .of .stocks .codes) (sound .stocks-fine .fine .short) in
-      let m = sound .stocks-fine .fine .most in
+      let l = cells-length (r .of .stocks .codes) (λ j l. sound .stocks .codes .good j l .most) in
+      let m = sound .stocks .codes .most in
       omega arith
 
   pub cells-long : length cells ≡ mostStocks * mostCode
   cells-long = ap length (r .cells-are) ∙ padded-long (mostStocks * mostCode) (cellsOf (r .of .stocks .codes)) cells-of
 
   lens-of : length (map length (r .of .stocks .codes)) ≤ mostStocks
-  lens-of = let m = sound .stocks-fine .fine .most in let l = length-map (r .of .stocks .codes) length in omega arith
+  lens-of = let m = sound .stocks .codes .most in let l = length-map (r .of .stocks .codes) length in omega arith
 
   pub lens-long : length lens ≡ mostStocks
   lens-long = ap length (r .lens-are) ∙ padded-long mostStocks (map length (r .of .stocks .codes)) lens-of
 
   pub turns-long : turned ≤ length turns
   turns-long =
-      let e : length turns ≡ mostTurns = ap length (r .turns-are) ∙ padded-long mostTurns (r .of .turns) (sound .turns-fine .few) in
-      let f = sound .turns-fine .few in
+      let e : length turns ≡ mostTurns = ap length (r .turns-are) ∙ padded-long mostTurns (r .of .turns) (sound .turns .most) in
+      let f = sound .turns .most in
       let m = r .made in
       omega arith
 
@@ -141,7 +142,7 @@ module _ {text : List ℕ} {n stocks turned : ℕ} {sets cells lens turns : List
   unfolding padded
   codes-back =
       ap (codesFrom cells lens 0) (sym (r .many))
-      ∙ cells-back cells lens 0 (r .of .stocks .codes) (zeros (mostStocks * mostCode - length (cellsOf (r .of .stocks .codes)))) (zeros (mostStocks - length (map length (r .of .stocks .codes)))) (sound .stocks-fine .fine .short) (r .cells-are) (r .lens-are)
+      ∙ cells-back cells lens 0 (r .of .stocks .codes) (zeros (mostStocks * mostCode - length (cellsOf (r .of .stocks .codes)))) (zeros (mostStocks - length (map length (r .of .stocks .codes)))) (λ j l. sound .stocks .codes .good j l .most) (r .cells-are) (r .lens-are)
 
   -- the length of each code
   code-short : (j : ℕ) → j < stocks → getD lens j 0 ≤ mostCode
@@ -150,17 +151,17 @@ module _ {text : List ℕ} {n stocks turned : ℕ} {sets cells lens turns : List
       let k : j < length (r .of .stocks .codes) = rw (r .many) l in
       let m = length-map (r .of .stocks .codes) length in
       rw (r .lens-are, List·getD-append (map length (r .of .stocks .codes)) (zeros (mostStocks - length (map length (r .of .stocks .codes)))) 0 j (omega arith), map-at (r .of .stocks .codes) j)
-      (sound .stocks-fine .fine .short j k)
+      (sound .stocks .codes .good j k .most)
 
   pub ready : (page : List ℕ) → length page ≡ mostPrinted → Ready page n sets stocks cells lens (take turned turns)
   ready page long =
       record {
         page-long = long;
-        high = rw (← r .stations) (sound .high);
-        sets-long = ap length (r .sets-are) ∙ sound .stocks-fine .long;
-        celled = record { most = rw (← r .many) (sound .stocks-fine .fine .most); cells-long = cells-long; lens-long = lens-long; short = code-short };
-        few = rw turns-back (sound .turns-fine .few);
-        named = rw (turns-back, ← r .stations) (all-stations (sound .turns-fine));
+        high = rw (← r .stations) (sound .most);
+        sets-long = ap length (r .sets-are) ∙ sound .stocks .sets;
+        celled = record { most = rw (← r .many) (sound .stocks .codes .most); cells-long = cells-long; lens-long = lens-long; short = code-short };
+        few = rw turns-back (sound .turns .most);
+        named = rw (turns-back, ← r .stations) (all-stations (sound .turns));
       }
 
   pub report-is : report n sets (codesFrom cells lens 0 stocks) (take turned turns) ≡ printed text

@@ -18,7 +18,7 @@ use Rattle.turns.specs.declared.playing.Played.{Played}
 use Rattle.turns.specs.Playing.{stepped, firstFrom, isUnwritten, stopsAt, playedOf}
 use Rattle.run.specs.Call.{isBad, firstBad, readsUnwritten, firstUnwritten}
 use Rattle.run.proofs.Agree.{stepped-after, stops-first}
-use Rattle.plan.proofs.Taken.{TurnsFine}
+use Rattle.text.specs.Sound.{GoodTurns}
 use Rattle.report.specs.Lines.{runLine, stockLine, stationLine, numbered}
 use Rattle.report.specs.Printed.{lines, report}
 use Rattle.report.specs.Put.{Put, countsIn}
@@ -44,8 +44,8 @@ not-bad : (n : ℕ) (turns : List ℕ) (t : ℕ) → Station n (getD turns t 0) 
 not-bad n turns t st = rw (le-leb 1 (getD turns t 0) (st .low), le-leb (getD turns t 0) n (st .high))
 
 -- every turn of a plan that was taken names a station
-pub all-stations : {n : ℕ} {turns : List ℕ} → TurnsFine n turns → (t : ℕ) → t < length turns → Station n (getD turns t 0)
-all-stations p t l = record { low = p .named t l .low; high = p .named t l .high }
+pub all-stations : {n : ℕ} {turns : List ℕ} → GoodTurns n turns → (t : ℕ) → t < length turns → Station n (getD turns t 0)
+all-stations p t l = record { low = p .least t l; high = p .within t l }
 
 module _ (n : ℕ) (sets turns : List ℕ) (high : n ≤ 16) (sixteen : length sets ≡ 16) (few : length turns ≤ 4096) (named : (t : ℕ) → t < length turns → Station n (getD turns t 0)) where
   fits : Fits levels registers n sets

@@ -18,18 +18,19 @@ use Rattle.method.specs.Demand.{Fits, isSettled, idleTurns}
 use Rattle.method.proofs.Demand3.{fits-board, counts-add-up, count-within}
 use Rattle.report.proofs.Running.{all-stations}
 use Rattle.run.specs.Answer.{shownOf}
-use Rattle.plan.specs.Limits.{mostCode}
-use Rattle.plan.specs.Text.{LF, tab}
-use Rattle.plan.specs.declared.Fault.{Fault}
-use Rattle.plan.specs.declared.Fault.the-variants.{LongText, NoGang, StrayByte, OtherWord, FewFields, NoStation, NoCode, MoreStocks, MoreTurns}
-use Rattle.plan.specs.Refusal.{numberOf}
-use Rattle.plan.specs.Plan.{Held, Reading, plan, refused, reading}
+use Rattle.text.specs.Limits.{mostCode}
+use Rattle.text.specs.Text.{LF, tab}
+use Rattle.text.specs.declared.Fault.{Fault}
+use Rattle.text.specs.declared.Fault.the-variants.{LongText, NoGang, StrayByte, OtherWord, FewFields, NoStation, NoCode, MoreStocks, MoreTurns}
+use Rattle.text.specs.Refusal.{numberOf}
+use Rattle.text.specs.Plan.{Held, Reading, plan, refused, reading}
 use Rattle.report.specs.Digits.{decimal, width}
 use Rattle.report.specs.Lines.{RUN, STOCK, ST, NO, line, refusalLine, runLine, stockLine, setShown, stationLine, mostRun, mostStock, mostStation, numbered}
 use Rattle.report.specs.declared.Printed.the-variants.{Whole}
 use Rattle.report.specs.Printed.{lines, report, reportOf, printed, mostPrinted, answerOf}
 use Rattle.report.proofs.Numerals.{digits-length, width-five}
-use Rattle.plan.proofs.Taken.{Sound, plan-sound, place-most}
+use Rattle.text.specs.Sound.{Sound}
+use Rattle.text.proofs.Outcomes.{sound as plan-sound, place-most}
 
 decimal-most : (x : ℕ) → x < 100000 → length (decimal x) ≤ 5
 decimal-most x h = rw (digits-length 10 (width x) x) (width-five x h)
@@ -129,13 +130,13 @@ module _ (h : Held) (sound : Sound h) where
   ends = after (fresh (h .stations) (h .stocks .sets)) (h .turns) (length (h .turns))
 
   fits : Fits levels registers (h .stations) (h .stocks .sets)
-  fits = fits-board (h .stations) (h .stocks .sets) (sound .high) (let l = sound .stocks-fine .long in let k = sound .high in omega arith)
+  fits = fits-board (h .stations) (h .stocks .sets) (sound .most) (let l = sound .stocks .sets in let k = sound .most in omega arith)
 
   idle-most : idleTurns (fresh (h .stations) (h .stocks .sets)) (h .turns) turned < 100000
   unfolding fresh
   idle-most =
-      let a = counts-add-up fits (h .turns) turned (all-stations (sound .turns-fine)) in
-      let f = sound .turns-fine .few in
+      let a = counts-add-up fits (h .turns) turned (all-stations (sound .turns)) in
+      let f = sound .turns .most in
       omega arith
 
   count-most : (j : ℕ) → j < h .stations → getD (ends .rows) j (notBegun 0) .count < 100000
@@ -144,18 +145,18 @@ module _ (h : Held) (sound : Sound h) where
       let a = count-within fits (h .turns) turned (suc j) (record { low = omega arith; high = l }) in
       let e : suc j - 1 ≡ j = omega arith in
       let b : getD (ends .rows) j (notBegun 0) .count ≤ turned = rw e at a in
-      let f = sound .turns-fine .few in
+      let f = sound .turns .most in
       omega arith
 
   stocks-most : length (numbered stockLine 0 (h .stocks .codes)) ≤ length (h .stocks .codes) * mostStock
   stocks-most =
-      let m = sound .stocks-fine .fine .most in
-      numbered-most stockLine mostStock 0 (h .stocks .codes) [] (λ j l. stock-most (0 + j) (getD (h .stocks .codes) j []) (omega arith) (sound .stocks-fine .fine .short j l))
+      let m = sound .stocks .codes .most in
+      numbered-most stockLine mostStock 0 (h .stocks .codes) [] (λ j l. stock-most (0 + j) (getD (h .stocks .codes) j []) (omega arith) (sound .stocks .codes .good j l .most))
 
   stations-most : length (numbered stationLine 1 (take (h .stations) (ends .rows))) ≤ length (take (h .stations) (ends .rows)) * mostStation
   stations-most =
       let long = length-take (h .stations) (ends .rows) in
-      let m = sound .high in
+      let m = sound .most in
       numbered-most stationLine mostStation 1 (take (h .stations) (ends .rows)) (notBegun 0)
       (λ j l.
       let k : j < h .stations = omega arith in
@@ -167,9 +168,9 @@ module _ (h : Held) (sound : Sound h) where
       let run = runLine (h .stations) turned (idleTurns (fresh (h .stations) (h .stocks .sets)) (h .turns) turned) in
       let stocks = numbered stockLine 0 (h .stocks .codes) in
       let stations = numbered stationLine 1 (take (h .stations) (ends .rows)) in
-      let m = sound .high in
-      let f = sound .turns-fine .few in
-      let c = sound .stocks-fine .fine .most in
+      let m = sound .most in
+      let f = sound .turns .most in
+      let c = sound .stocks .codes .most in
       let a = run-most (h .stations) turned (idleTurns (fresh (h .stations) (h .stocks .sets)) (h .turns) turned) (omega arith) (omega arith) idle-most in
       let b = stocks-most in
       let d = stations-most in

@@ -8,9 +8,9 @@ use Rattle.method.specs.declared.Run.{Run}
 use Rattle.method.specs.Board.{fresh}
 use Rattle.method.specs.Turn.{after}
 use Rattle.method.specs.Demand.{idleTurns}
-use Rattle.plan.specs.Limits.{mostStations, mostStocks}
-use Rattle.plan.specs.Refusal.{numberOf}
-use Rattle.plan.specs.Plan.{Reading, plan, refused, reading}
+use Rattle.text.specs.Limits.{mostStations, mostStocks}
+use Rattle.text.specs.Refusal.{numberOf}
+use Rattle.text.specs.Plan.{Reading, plan, refused, reading}
 use Rattle.report.specs.declared.Printed.{Printed}
 use Rattle.report.specs.declared.Printed.the-variants.{Whole, TooSmall}
 use Rattle.report.specs.Lines.{refusalLine, runLine, stockLine, stationLine, mostRun, mostStock, mostStation, numbered}

@@ -7,7 +7,7 @@ use lib.Seq.{sets}
 use Rattle.method.specs.declared.Row.{Row}
 use Rattle.method.specs.Board.{notBegun}
 use Rattle.method.specs.Demand.{Station}
-use Rattle.plan.specs.Limits.{mostStations, mostStocks, mostTurns, mostCode}
+use Rattle.text.specs.Limits.{mostStations, mostStocks, mostTurns, mostCode}
 use Rattle.report.specs.Printed.{mostPrinted}
 
 -- the text stands in the page from `at` on, every other byte is as it was, and `next` is the place behind it

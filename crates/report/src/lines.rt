@@ -1,7 +1,7 @@
 // The lines of a report, each put into the page as a whole.
 ghost use Prim.Native.Nat.{_+_, _≤_};
 ghost use lib.ListN.{length};
-ghost use Rattle.plan.specs.Limits.{mostCode};
+ghost use Rattle.text.specs.Limits.{mostCode};
 ghost use Rattle.report.specs.Lines.{refusalLine, runLine, stockLine, stationLine, mostRun, mostStock, mostStation};
 ghost use Rattle.report.specs.Put.{Put};
 use super::fields::put_byte;

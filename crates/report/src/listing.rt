@@ -2,7 +2,7 @@
 ghost use mathlib.Core.Path.{_≡_};
 ghost use Prim.Native.Nat.{_+_, _*_, _≤_, _<_};
 ghost use lib.ListN.{length, take};
-ghost use Rattle.plan.specs.Limits.{mostStations};
+ghost use Rattle.text.specs.Limits.{mostStations};
 ghost use Rattle.report.specs.Lines.{numbered, stockLine, stationLine, mostStock, mostStation};
 ghost use Rattle.report.specs.Put.{Put, Celled, codesFrom, countsIn};
 use super::lines::put_station;

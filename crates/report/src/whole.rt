@@ -10,7 +10,7 @@ use super::lines::put_run;
 use super::listing::counted;
 use super::listing::put_stations;
 use super::listing::put_stocks;
-use plan::Answer;
+use text::Answer;
 
 // The report of a plan that was read: it is run, and the lines are put into the page.
 fn put_report(
@@ -52,7 +52,7 @@ fn put_printed(text: &[u8], page: &mut [u8]) -> usize
             turns: t,
         } => put_report(page, n, sets, s, &cells, &lens, &turns[..t]),
         Answer::Refused { fault, place } => {
-            put_refusal(page, plan::number_of(fault) as u16, place as u16)
+            put_refusal(page, text::number_of(fault) as u16, place as u16)
         }
     }
 }

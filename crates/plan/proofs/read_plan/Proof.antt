@@ -3,7 +3,9 @@
 use mathlib.Core.Path.{_∙_}
 use borrow.Author.Needs.{needs}
 use Rattle.plan.specs.Hand.{hand}
-use Rattle.plan.proofs.Whole.{too-long, not-too-long, clear, cells-asked, plan-out, refused-out, plan-gives, plan-kept, refusal-gives}
+use Rattle.text.proofs.Lengths.{too-long, not-too-long}
+use Rattle.text.proofs.Answers.{refused-out}
+use Rattle.plan.proofs.Whole.{clear, cells-asked, plan-out, plan-gives, plan-kept, refusal-gives}
 use Rattle.plan.proofs.read_plan.Statement.{statement}
 use Rattle.plan.proofs.read_plan.Tie as tie
 

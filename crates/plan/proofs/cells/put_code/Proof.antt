@@ -6,7 +6,7 @@ use native.Mathlib.Omega.{arith}
 use mathlib.Core.List.{List}
 use lib.ListN.{getD, set}
 use lib.Seq.{paste, paste-zero}
-use Rattle.plan.specs.Window.{part}
+use Rattle.fields.specs.Window.{part}
 use Rattle.plan.proofs.Celled.{byte-more}
 use Rattle.plan.proofs.cells.put_code.Statement.{statement}
 use Rattle.plan.proofs.cells.put_code.Tie as tie

@@ -6,9 +6,9 @@ use native.Mathlib.Omega.{arith}
 use mathlib.Core.List.{List}
 use lib.ListN.{length, getD}
 use lib.Seq.{paste}
-use Rattle.plan.specs.Limits.{mostStocks, mostCode}
+use Rattle.text.specs.Limits.{mostStocks, mostCode}
 use Rattle.plan.specs.Hand.{codeAt, codesIn}
-use Rattle.plan.specs.Buffers.{padded, cellsOf}
+use Rattle.text.specs.Buffers.{padded, cellsOf}
 use Rattle.plan.proofs.Celled.{code-more, cells-there}
 use Rattle.plan.proofs.cells.put_codes.Statement.{statement}
 use Rattle.plan.proofs.cells.put_codes.Tie as tie

@@ -7,12 +7,12 @@ use borrow.Author.Needs.{needs}
 use Prim.Native.Nat.{zero-le}
 use mathlib.Core.List.{List, []}
 use lib.ListN.{length, drop, length-replicate}
-use Rattle.plan.specs.Text.{linesOf}
-use Rattle.plan.specs.Plan.{held, stocked, laterLines}
+use Rattle.text.specs.Text.{linesOf}
+use Rattle.text.specs.Plan.{held, stocked, laterLines}
 use Rattle.plan.specs.Hand.{codesIn}
-use Rattle.plan.specs.Window.{fieldsFrom}
+use Rattle.fields.specs.Window.{fieldsFrom}
 use Rattle.plan.proofs.Windows.{line-most}
-use Rattle.plan.proofs.GangLines.{gang-most}
+use Rattle.text.proofs.Outcomes.{gang-most}
 use Rattle.plan.proofs.Later.{first-strayed, no-gang, gang-there}
 use Rattle.plan.proofs.lines.all_lines.Statement.{statement}
 use Rattle.plan.proofs.lines.all_lines.Tie as tie

@@ -5,7 +5,6 @@ use mathlib.Core.Path.{sym}
 use native.Mathlib.Omega.{arith}
 use borrow.Author.Needs.{needs}
 use lib.Seq.{length-take-le}
-use Rattle.plan.specs.Hand.{hand}
 use Rattle.plan.proofs.Windows.{field-most}
 use Rattle.plan.proofs.LineWays.{other-way, has-way, has-no-way, turn-way, turn-no-way}
 use Rattle.plan.proofs.lines.later_line.Statement.{statement}
@@ -70,60 +69,31 @@ enum-told-3 c = search needs
 
 returns : tie.Need-returns
 returns c =
-    let g = c .before .before .before .before .before .before .before .before .before .before .before .before .before .before .before in
-    let a = g .args in
-    let f = c .before .before .before .before .before .before .before .before .before .before .before .before .field-end in
-    let w = c .before .before .before .before .before .before .before .before .before .before .word in
-    let h = hand (a .sets .now) (a .starts .now) (a .lens .now) (a .keys .now) (a .turns .now) in
-    let t = c .before .before .before .has-line in
     let r = c .before .r .given in
-    has-way (a .text .now) (a .at) (a .end) (a .n) h (a .stocks) (a .turned) (g .pre) (f .result) (f .ensures) (w .result) (w .ensures)
-    (c .before .before .before .before .before .before .before .before .enum-told .given .1) (t .result) (t .last .1 .1 .1 .1 .1 .0) (t .last .1 .1 .1 .1 .1 .1 .0) (t .last .1 .1 .1 .1 .1 .1 .1 .0) (t .last .1 .1 .1 .1 .1 .1 .1 .1 .0) (t .ensures) (r .0 .0) (r .1)
+    has-way (c .before .before .before .before .before .before .before .before .before .before .before .before .before .before .before .pre) (c .before .before .before .before .before .before .before .before .before .before .before .before .field-end .ensures) (c .before .before .before .before .before .before .before .before .before .before .word .ensures) (c .before .before .before .before .before .before .before .before .enum-told .given .1)
+    (c .before .before .before .has-line .ensures) (r .0 .0) (r .1)
 
 returns-2 : tie.Need-returns-2
 returns-2 c =
-    let g = c .before .before .before .before .before .before .before .before .before .before .before .before .before .before .before in
-    let a = g .args in
-    let f = c .before .before .before .before .before .before .before .before .before .before .before .before .field-end in
-    let w = c .before .before .before .before .before .before .before .before .before .before .word in
-    let h = hand (a .sets .now) (a .starts .now) (a .lens .now) (a .keys .now) (a .turns .now) in
-    let t = c .before .before .before .has-line in
     let r = c .before .r2 .given in
-    has-no-way (a .text .now) (a .at) (a .end) (a .n) h (a .stocks) (a .turned) (g .pre) (f .result) (f .ensures) (w .result) (w .ensures)
-    (c .before .before .before .before .before .before .before .before .enum-told .given .1) (t .result) (t .last .1 .1 .1 .1 .1 .0) (t .last .1 .1 .1 .1 .1 .1 .0) (t .last .1 .1 .1 .1 .1 .1 .1 .0) (t .last .1 .1 .1 .1 .1 .1 .1 .1 .0) (t .ensures) (r .0 .0) (r .1) _
+    has-no-way (c .before .before .before .before .before .before .before .before .before .before .before .before .before .before .before .pre) (c .before .before .before .before .before .before .before .before .before .before .before .before .field-end .ensures) (c .before .before .before .before .before .before .before .before .before .before .word .ensures) (c .before .before .before .before .before .before .before .before .enum-told .given .1)
+    (c .before .before .before .has-line .ensures) (r .0 .0) (r .1)
 
 returns-3 : tie.Need-returns-3
 returns-3 c =
-    let g = c .before .before .before .before .before .before .before .before .before .before .before .before in
-    let a = g .args in
-    let f = c .before .before .before .before .before .before .before .before .before .field-end in
-    let w = c .before .before .before .before .before .before .before .word in
-    let h = hand (a .sets .now) (a .starts .now) (a .lens .now) (a .keys .now) (a .turns .now) in
-    let t = c .before .before .before .turn-line in
     let r = c .before .r3 .given in
-    turn-way (a .text .now) (a .at) (a .end) (a .n) h (a .stocks) (a .turned) (g .pre) (f .result) (f .ensures) (w .result) (w .ensures)
-    (c .before .before .before .before .before .enum-told2 .given .1) (t .result) (t .last .1 .1 .1 .1 .1 .0) (t .ensures) (r .0 .0) (r .1)
+    turn-way (c .before .before .before .before .before .before .before .before .before .before .before .before .pre) (c .before .before .before .before .before .before .before .before .before .field-end .ensures) (c .before .before .before .before .before .before .before .word .ensures) (c .before .before .before .before .before .enum-told2 .given .1)
+    (c .before .before .before .turn-line .ensures) (r .0 .0) (r .1)
 
 returns-4 : tie.Need-returns-4
 returns-4 c =
-    let g = c .before .before .before .before .before .before .before .before .before .before .before .before in
-    let a = g .args in
-    let f = c .before .before .before .before .before .before .before .before .before .field-end in
-    let w = c .before .before .before .before .before .before .before .word in
-    let h = hand (a .sets .now) (a .starts .now) (a .lens .now) (a .keys .now) (a .turns .now) in
-    let t = c .before .before .before .turn-line in
     let r = c .before .r4 .given in
-    turn-no-way (a .text .now) (a .at) (a .end) (a .n) h (a .stocks) (a .turned) (g .pre) (f .result) (f .ensures) (w .result) (w .ensures)
-    (c .before .before .before .before .before .enum-told2 .given .1) (t .result) (t .last .1 .1 .1 .1 .1 .0) (t .ensures) (r .0 .0) (r .1) _
+    turn-no-way (c .before .before .before .before .before .before .before .before .before .before .before .before .pre) (c .before .before .before .before .before .before .before .before .before .field-end .ensures) (c .before .before .before .before .before .before .before .word .ensures) (c .before .before .before .before .before .enum-told2 .given .1)
+    (c .before .before .before .turn-line .ensures) (r .0 .0) (r .1)
 
 returns-5 : tie.Need-returns-5
 returns-5 c =
-    let g = c .before .before .before .before .before .before .before in
-    let a = g .args in
-    let f = c .before .before .before .before .field-end in
-    let w = c .before .before .word in
-    let h = hand (a .sets .now) (a .starts .now) (a .lens .now) (a .keys .now) (a .turns .now) in
-    other-way (a .text .now) (a .at) (a .end) (a .n) h (a .stocks) (a .turned) (g .pre) (f .result) (f .ensures) (w .result) (w .ensures) (c .enum-told3 .given .1) _
+    other-way (c .before .before .before .before .before .before .before .pre) (c .before .before .before .before .field-end .ensures) (c .before .before .word .ensures) (c .enum-told3 .given .1)
 
 pub later-line-spec : {M : Type 1} → statement M
 later-line-spec =

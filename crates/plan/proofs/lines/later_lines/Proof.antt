@@ -5,8 +5,8 @@ use mathlib.Core.Path.{_≡_, refl, sym, _∙_}
 use native.Mathlib.Omega.{arith}
 use borrow.Author.Needs.{needs}
 use lib.ListN.{length, drop}
-use Rattle.plan.specs.Text.{linesOf}
-use Rattle.plan.specs.Plan.{laterLines}
+use Rattle.text.specs.Text.{linesOf}
+use Rattle.text.specs.Plan.{laterLines}
 use Rattle.plan.specs.Hand.{hand, heldOf, PlanIn}
 use Rattle.plan.proofs.Windows.{line-most}
 use Rattle.plan.proofs.LineWays.{more-gives, more-kept, bad-gives}

@@ -6,8 +6,8 @@ use native.Mathlib.Omega.{arith}
 use borrow.Author.Needs.{needs}
 use lib.ListN.{set}
 use lib.Seq.{length-take-le}
-use Rattle.plan.specs.Plan.{each, takeCode, holding}
-use Rattle.plan.specs.Window.{fieldsFrom}
+use Rattle.text.specs.Plan.{each, takeCode, holding}
+use Rattle.fields.specs.Window.{fieldsFrom}
 use Rattle.plan.specs.Hand.{Table, codesIn}
 use Rattle.plan.proofs.Windows.{field-most}
 use Rattle.plan.proofs.Fields.{no-field, field-taken, field-refused}

@@ -1,24 +1,17 @@
 -- `plan::stocks::has_line` meets its contract: too few fields, no station, a code that is refused, or the station's set with its codes.
 -- Assumes nothing.
-use Prim.Native.Nat.{_-_}
-use mathlib.Core.Path.{sym, _∙_}
+use mathlib.Core.Path.{sym}
 use native.Mathlib.Omega.{arith}
 use borrow.Author.Needs.{needs}
-use lib.ListN.{length-set}
 use lib.Seq.{length-take-le}
-use Rattle.plan.specs.Plan.{stocked}
-use Rattle.plan.specs.Window.{part}
-use Rattle.plan.specs.Hand.{codesIn}
-use Rattle.plan.proofs.Numbers.{number-most}
-use Rattle.plan.proofs.Coding.{stocks-gives, stocks-kept, refused-gives}
-use Rattle.plan.proofs.HasLines.{has-none, has-one, has-nobody, has-refused, has-taken}
+use Rattle.fields.specs.Window.{part}
+use Rattle.text.proofs.Numbers.{number-most}
+use Rattle.plan.proofs.HasLines.{read-none, read-one, read-nobody, read-refused, read-taken}
 use Rattle.plan.proofs.stocks.has_line.Statement.{statement}
 use Rattle.plan.proofs.stocks.has_line.Tie as tie
 
 returns : tie.Need-returns
-returns c =
-    let a = c .before .before .args in
-    record { gives = has-none (a .n) _ (a .text .now) (a .at) (a .end) (c .if1 .taken); kept = tt }
+returns c = read-none (c .before .before .args .at) (c .before .before .pre) (c .if1 .taken)
 
 slice-aggregate-field-end : tie.Need-slice-aggregate-field-end
 slice-aggregate-field-end c = sym (length-take-le (c .before .before .before .args .end) (c .before .before .before .args .text .now) (c .before .before .before .pre .ends))
@@ -27,11 +20,7 @@ field-end-requires : tie.Need-field-end-requires
 field-end-requires c κs = search needs
 
 returns-2 : tie.Need-returns-2
-returns-2 c =
-    let g = c .before .before .before .before .before in
-    let a = g .args in
-    let f = c .before .field-end in
-    record { gives = has-one (a .n) _ (a .text .now) (a .at) (a .end) (g .pre .ends) (c .before .before .before .if1 .left) (f .result) (f .ensures) (c .if2 .taken); kept = tt }
+returns-2 c = read-one (c .before .before .before .before .before .args .at) (c .before .before .before .before .before .pre) (c .before .before .before .if1 .left) (c .before .field-end .ensures) (c .if2 .taken)
 
 sub-number : tie.Need-sub-number
 sub-number c = search needs
@@ -47,16 +36,8 @@ number-requires c κs = search needs
 
 returns-3 : tie.Need-returns-3
 returns-3 c =
-    let g = c .before .before .before .before .before .before .before .before in
-    let a = g .args in
-    let f = c .before .before .before .before .field-end in
-    let n = c .before .number in
-    record {
-      gives =
-          has-nobody (a .n) _ (a .text .now) (a .at) (a .end) (g .pre .ends) (c .before .before .before .before .before .before .if1 .left) (f .result) (f .ensures) (c .before .before .before .if2 .left)
-          (n .result) (n .ensures) (c .if3 .taken);
-      kept = tt;
-    }
+    read-nobody (c .before .before .before .before .before .before .before .before .args .at) (c .before .before .before .before .before .before .before .before .pre) (c .before .before .before .before .before .before .if1 .left) (c .before .before .before .before .field-end .ensures) (c .before .before .before .if2 .left)
+    (c .before .number .ensures) (c .if3 .taken)
 
 sub-i : tie.Need-sub-i
 sub-i c = search needs
@@ -98,33 +79,15 @@ enum-known-r-2 c = search needs
 
 returns-4 : tie.Need-returns-4
 returns-4 c =
-    let g = c .before .before .before .before .before .before .before .before .before .before .before .before .before .before .before .before in
-    let a = g .args in
-    let f = c .before .before .before .before .before .before .before .before .before .before .before .before .field-end in
-    let n = c .before .before .before .before .before .before .before .before .before .number in
-    let t = c .before .before .before .codes-from in
     let r = c .before .r .given in
-    record {
-      gives =
-          has-taken (a .n) (stocked (codesIn (a .text .now) (a .starts .now) (a .lens .now) (a .count)) (a .sets .now)) (a .text .now) (a .at) (a .end) (g .pre .ends) (c .before .before .before .before .before .before .before .before .before .before .before .before .before .before .if1 .left) (f .result) (f .ensures) (c .before .before .before .before .before .before .before .before .before .before .before .if2 .left)
-          (n .result) (n .ensures) (c .before .before .before .before .before .before .before .before .if3 .left) _ (stocks-gives (t .ensures) (r .0 .0) (r .0 .1 .0) (r .1));
-      kept = (length-set (a .sets .now) (n .result - 1) (r .0 .1 .0) ∙ g .pre .sets-long, stocks-kept (t .ensures) (r .0 .0) (r .0 .1 .0) (r .1));
-    }
+    read-taken (c .before .before .before .before .before .before .before .before .before .before .before .before .before .before .before .before .args .at) (c .before .before .before .before .before .before .before .before .before .before .before .before .before .before .before .before .pre) (c .before .before .before .before .before .before .before .before .before .before .before .before .before .before .if1 .left) (c .before .before .before .before .before .before .before .before .before .before .before .before .field-end .ensures) (c .before .before .before .before .before .before .before .before .before .before .before .if2 .left)
+    (c .before .before .before .before .before .before .before .before .before .number .ensures) (c .before .before .before .before .before .before .before .before .if3 .left) (c .before .before .before .codes-from .ensures) (r .0 .0) (r .0 .1 .0) (r .1)
 
 returns-5 : tie.Need-returns-5
 returns-5 c =
-    let g = c .before .before .before .before .before .before .before .before .before .before .before .before .before .before .before .before in
-    let a = g .args in
-    let f = c .before .before .before .before .before .before .before .before .before .before .before .before .field-end in
-    let n = c .before .before .before .before .before .before .before .before .before .number in
-    let t = c .before .before .before .codes-from in
     let r = c .before .r2 .given in
-    record {
-      gives =
-          has-refused (a .n) (stocked (codesIn (a .text .now) (a .starts .now) (a .lens .now) (a .count)) (a .sets .now)) (a .text .now) (a .at) (a .end) (g .pre .ends) (c .before .before .before .before .before .before .before .before .before .before .before .before .before .before .if1 .left) (f .result) (f .ensures) (c .before .before .before .before .before .before .before .before .before .before .before .if2 .left)
-          (n .result) (n .ensures) (c .before .before .before .before .before .before .before .before .if3 .left) (r .0 .0) (refused-gives (t .ensures) (r .0 .0) (r .1));
-      kept = tt;
-    }
+    read-refused (c .before .before .before .before .before .before .before .before .before .before .before .before .before .before .before .before .args .at) (c .before .before .before .before .before .before .before .before .before .before .before .before .before .before .before .before .pre) (c .before .before .before .before .before .before .before .before .before .before .before .before .before .before .if1 .left) (c .before .before .before .before .before .before .before .before .before .before .before .before .field-end .ensures) (c .before .before .before .before .before .before .before .before .before .before .before .if2 .left)
+    (c .before .before .before .before .before .before .before .before .before .number .ensures) (c .before .before .before .before .before .before .before .before .if3 .left) (c .before .before .before .codes-from .ensures) (r .0 .0) (r .1)
 
 pub has-line-spec : {M : Type 1} → statement M
 has-line-spec =

@@ -2,8 +2,8 @@
 -- Assumes nothing.
 use mathlib.Core.Path.{sym, ap, _∙_}
 use borrow.Author.Needs.{needs}
-use Rattle.plan.specs.Hand.{keyOn}
-use Rattle.plan.proofs.Listing.{same-not}
+use Rattle.text.proofs.Runs.{same-not}
+use Rattle.fields.specs.Key.{keyOn}
 use Rattle.plan.proofs.stocks.is_stock.Statement.{statement}
 use Rattle.plan.proofs.stocks.is_stock.Tie as tie
 

@@ -4,9 +4,9 @@ use Prim.Native.Nat.{_+_, _-_, _≤_}
 use mathlib.Core.Path.{_≡_, sym, ap, _∙_}
 use native.Mathlib.Omega.{arith}
 use lib.ListN.{drop}
-use Rattle.plan.specs.Code.{stockOf}
-use Rattle.plan.specs.Window.{part}
-use Rattle.plan.specs.Text.{same}
+use Rattle.text.specs.Code.{stockOf}
+use Rattle.fields.specs.Window.{part}
+use Rattle.text.specs.Text.{same}
 use Rattle.plan.specs.Hand.{codesIn}
 use Rattle.plan.proofs.Listing.{codes-length, codes-at, stock-on, stock-here, stock-none}
 use Rattle.plan.proofs.stocks.stock_of.Statement.{statement}

@@ -3,7 +3,7 @@
 use mathlib.Core.Path.{sym, ap, _∙_}
 use native.Mathlib.Omega.{arith}
 use borrow.Author.Needs.{needs}
-use Rattle.plan.specs.Plan.{addStock}
+use Rattle.text.specs.Plan.{addStock}
 use Rattle.plan.proofs.Coding.{code-long, code-blank, code-left, field-length, code-part, code-most}
 use Rattle.plan.proofs.stocks.take_code.Statement.{statement}
 use Rattle.plan.proofs.stocks.take_code.Tie as tie

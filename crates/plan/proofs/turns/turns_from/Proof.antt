@@ -6,8 +6,8 @@ use native.Mathlib.Omega.{arith}
 use borrow.Author.Needs.{needs}
 use lib.ListN.{take}
 use lib.Seq.{length-take-le}
-use Rattle.plan.specs.Plan.{each, takeTurn}
-use Rattle.plan.specs.Window.{fieldsFrom}
+use Rattle.text.specs.Plan.{each, takeTurn}
+use Rattle.fields.specs.Window.{fieldsFrom}
 use Rattle.plan.specs.Hand.{TurnsIn}
 use Rattle.plan.proofs.Windows.{field-most}
 use Rattle.plan.proofs.Fields.{no-field, field-taken, field-refused}

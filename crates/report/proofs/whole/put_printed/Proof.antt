@@ -1,7 +1,7 @@
 use mathlib.Core.Path.{_≡_, sym}
-use Rattle.plan.specs.Refusal.{numberOf}
-use Rattle.plan.specs.Plan.{refused, reading}
-use Rattle.plan.specs.declared.Fault.{Fault}
+use Rattle.text.specs.Refusal.{numberOf}
+use Rattle.text.specs.Plan.{refused, reading}
+use Rattle.text.specs.declared.Fault.{Fault}
 use Rattle.report.specs.Lines.{refusalLine}
 use Rattle.report.specs.Printed.{printed}
 use Rattle.report.proofs.Laying.{put-same}

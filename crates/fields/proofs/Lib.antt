@@ -1,0 +1,5 @@
+-- Laws that belong to no one function.
+pub mod Keys
+pub mod Held
+pub mod ToEnd
+pub mod Through

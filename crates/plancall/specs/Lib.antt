@@ -1,0 +1,2 @@
+-- The call for C.
+pub mod Call

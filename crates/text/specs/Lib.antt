@@ -1,0 +1,11 @@
+-- What a reader must believe: document 01, "The plan text", as executable definitions.
+pub mod Limits
+pub mod Text
+pub mod Number
+pub mod Code
+pub mod Refusal
+pub mod Plan
+pub mod Buffers
+pub mod Alike
+pub mod Sound
+pub mod Worked
