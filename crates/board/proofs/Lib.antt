@@ -1,4 +1,2 @@
--- Laws for the proofs of this crate, and of where the parts of the record stand.
+-- Laws for the proofs of this crate.
 mod Filled
-pub mod Placing
-mod Moving

@@ -12,28 +12,28 @@ pub struct Reader<'a> {
 }
 
 // A reader at the start of the text.
-pub fn new<'a>(text: &'a [u8]) -> Reader<'a>
+pub(super) fn new<'a>(text: &'a [u8]) -> Reader<'a>
     ensures { λ r. ⌜ (r .text ≡ text .entry) × (r .at ≡ 0) ⌝ }
 {
     Reader { text, at: 0 }
 }
 
 // The reader at another place of its text.
-pub fn moved<'a>(r: Reader<'a>, at: usize) -> Reader<'a>
+pub(super) fn moved<'a>(r: Reader<'a>, at: usize) -> Reader<'a>
     ensures { λ q. ⌜ (q .text ≡ r .entry .text) × (q .at ≡ at) ⌝ }
 {
     Reader { text: r.text, at }
 }
 
 // The reader's place.
-pub fn place<'a>(r: Reader<'a>) -> usize
+pub(super) fn place<'a>(r: Reader<'a>) -> usize
     ensures { λ n. ⌜ n ≡ r .entry .at ⌝ }
 {
     r.at
 }
 
 // The reader at the end of the bytes that a line may hold: the line's end, if the line holds no other.
-pub fn to_line_end<'a>(r: Reader<'a>) -> Reader<'a>
+pub(super) fn to_line_end<'a>(r: Reader<'a>) -> Reader<'a>
     ensures { λ q. ⌜ (q .text ≡ r .entry .text) × (q .at ≡ endOf Text.fine (now (r .entry .text)) (r .entry .at)) ⌝ }
 {
     let end = scan::line_end(r.text, r.at);
@@ -44,7 +44,7 @@ pub fn to_line_end<'a>(r: Reader<'a>) -> Reader<'a>
 }
 
 // The reader at the end of the field that it stands in.
-pub fn to_field_end<'a>(r: Reader<'a>) -> Reader<'a>
+pub(super) fn to_field_end<'a>(r: Reader<'a>) -> Reader<'a>
     ensures { λ q. ⌜ (q .text ≡ r .entry .text) × (q .at ≡ endOf noTab (now (r .entry .text)) (r .entry .at)) ⌝ }
 {
     let end = scan::field_end(r.text, r.at);

@@ -16,7 +16,7 @@ use Rattle.method.specs.Turn.{turn, after}
 use Rattle.method.specs.Demand.{Fits, Station}
 use Rattle.method.proofs.Demand3.{count-within, fits-board}
 use Rattle.turns.specs.declared.playing.Played.{Played}
-use Rattle.board.specs.Moves.{countEnd}
+use Rattle.turns.specs.Moves.{countEnd}
 use Rattle.turns.specs.Step.{stepOf}
 use Rattle.turns.specs.Playing.{stepped, firstFrom, unwrittenStep, stopsAt, playedOf}
 use Rattle.run.specs.declared.verdict.Verdict.{Verdict}

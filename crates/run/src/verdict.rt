@@ -13,7 +13,7 @@ pub enum Verdict {
 }
 
 // The number that is returned for it: the refusal plus 100 times its place.
-pub fn number_of(verdict: Verdict) -> u32
+pub(super) fn number_of(verdict: Verdict) -> u32
     ensures { λ r. ⌜ r ≡ numberOf verdict ⌝ }
 {
     match verdict {

@@ -1,4 +1,6 @@
 -- Laws for the proofs of this crate.
+mod Placing
+mod Moving
 mod Within
 mod Values
 mod Record

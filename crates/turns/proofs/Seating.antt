@@ -20,8 +20,8 @@ use denote.Steps.{owned, nothing}
 use denote.Triple.Statement.{Contract}
 use denote.Triple.Spec.{tripleOf}
 use denote.Triple.Clauses.{ensured, lasts}
-use Rattle.board.specs.Places.{seatAt}
-use Rattle.board.proofs.places.seat_of as seat
+use Rattle.turns.specs.Places.{seatAt}
+use Rattle.turns.proofs.places.seat_of as seat
 
 abbrev pub Seat : {M : Type 1} (𝓤 : URA M) (H : Heap 𝓤) (A : Atoms 𝓤) (at-mem : Memory → SProp 𝓤) (run : Routine → Fun 𝓤) → Contract 𝓤
 Seat 𝓤 H A at-mem run = tripleOf 𝓤 H A seat.signature (seat.spec 𝓤 H A at-mem run)

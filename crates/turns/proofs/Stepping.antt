@@ -26,15 +26,15 @@ use Rattle.method.specs.declared.Turned.{Turned}
 use Rattle.method.specs.Board.{emptyLevel, notBegun, unwritten, row, rowOf, lineOf, levelOf, registerOf, withRow, withLine, withRegister}
 use Rattle.method.specs.Steps.{absorb, gather, reachAt, reach, writing, nextOp}
 use Rattle.method.specs.Turn.{turned, goesOn, readLine, perform, named, turn}
-use Rattle.board.specs.declared.places.Aim.{Aim}
-use Rattle.board.specs.declared.places.Spot.{Spot}
-use Rattle.board.specs.declared.registers.United.{United}
-use Rattle.board.specs.declared.lines.Lined.{Lined}
-use Rattle.board.specs.Moves.{countEnd}
+use Rattle.turns.specs.declared.places.Aim.{Aim}
+use Rattle.turns.specs.declared.places.Spot.{Spot}
+use Rattle.turns.specs.declared.registers.United.{United}
+use Rattle.turns.specs.declared.lines.Lined.{Lined}
+use Rattle.turns.specs.Moves.{countEnd}
 use Rattle.turns.specs.Step.{stepOf}
-use Rattle.board.specs.Places.{seatAt, aim, nowhere, registerAim, aimOf, spot, noLine, lineSpot, spotOf}
-use Rattle.board.specs.Moves.{mayTurn, isUniting, oneMore, effectOf, onward, unitedOf, leaves, linedBy, linedOf}
-use Rattle.board.proofs.Placing.{seat-own}
+use Rattle.turns.specs.Places.{seatAt, aim, nowhere, registerAim, aimOf, spot, noLine, lineSpot, spotOf}
+use Rattle.turns.specs.Moves.{mayTurn, isUniting, oneMore, effectOf, onward, unitedOf, leaves, linedBy, linedOf}
+use Rattle.turns.proofs.Placing.{seat-own}
 use Rattle.turns.proofs.Record.{withBoard, withLines, withRows, levelAt, withCell, same-cell}
 
 -- the record has a row and a line for each of 16 stations, and four levels of 16 registers

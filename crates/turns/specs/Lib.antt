@@ -1,3 +1,5 @@
--- Turns on a record whose counts are two bytes wide.
+-- What the contracts of turns say beyond the method's own definitions.
+pub mod Places
+pub mod Moves
 pub mod Step
 pub mod Playing

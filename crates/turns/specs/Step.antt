@@ -7,7 +7,7 @@ use Rattle.method.specs.declared.Run.{Run}
 use Rattle.method.specs.declared.Turned.{Turned}
 use Rattle.method.specs.Board.{rowOf}
 use Rattle.method.specs.Turn.{turn, turned}
-use Rattle.board.specs.Moves.{countEnd}
+use Rattle.turns.specs.Moves.{countEnd}
 
 -- no turn is made for a station whose count is at its end
 unfoldable pub stepOf : Run → ℕ → Turned

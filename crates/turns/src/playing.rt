@@ -1,9 +1,9 @@
 // An order of turns on the run record.
 ghost use mathlib.Core.Path.{_≡_};
 ghost use Rattle.turns.specs.Playing.{isUnwritten, stepped, stopsAt, playedOf};
+use super::places;
+use super::rows;
 use super::turning;
-use board::places;
-use board::rows;
 use method::Did;
 use method::Run;
 

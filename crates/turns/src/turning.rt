@@ -1,10 +1,10 @@
 // One turn on the run record, which its owner lends.
 ghost use mathlib.Core.Path.{_≡_};
 ghost use Rattle.turns.specs.Step.{stepOf};
-use board::lines;
-use board::places;
-use board::registers;
-use board::rows;
+use super::lines;
+use super::places;
+use super::registers;
+use super::rows;
 use method::Did;
 use method::Run;
 

@@ -66,12 +66,12 @@ use Rattle.method.proofs.Row as Rw
 use Rattle.method.proofs.Row.Laws as Rw′
 use Rattle.method.proofs.Run as Rn
 use Rattle.method.proofs.Run.Laws as Rn′
-use Rattle.board.specs.declared.places.Aim.{Aim}
-use Rattle.board.specs.declared.places.Spot.{Spot}
-use Rattle.board.specs.declared.registers.United.{United}
-use Rattle.board.specs.declared.lines.Lined.{Lined}
-use Rattle.board.specs.Places.{seatAt, aimOf, spotOf}
-use Rattle.board.specs.Moves.{mayTurn, isUniting, unitedOf, linedOf}
+use Rattle.turns.specs.declared.places.Aim.{Aim}
+use Rattle.turns.specs.declared.places.Spot.{Spot}
+use Rattle.turns.specs.declared.registers.United.{United}
+use Rattle.turns.specs.declared.lines.Lined.{Lined}
+use Rattle.turns.specs.Places.{seatAt, aimOf, spotOf}
+use Rattle.turns.specs.Moves.{mayTurn, isUniting, unitedOf, linedOf}
 use Rattle.turns.specs.Step.{stepOf}
 use Rattle.turns.proofs.Values.{runVal, rowVal, lineVal, didVal}
 use Rattle.turns.proofs.Within.{within-self, knows, sees, sets}
@@ -80,42 +80,42 @@ use Rattle.turns.proofs.Calling.{calls-plain, may-leave, holds, fails, 
 use Rattle.turns.proofs.Seating.{Seat, to-seat, goes-seat, said-seat, told-seat}
 use Rattle.turns.proofs.Stepping.{Shaped, putRegister, putLine, step-none, step-register, step-line}
 use Rattle.turns.proofs.Shape.{shaped}
-use Rattle.board.proofs.Placing.{Placed, seat-below, placed, spot-below}
-use Rattle.board.proofs.places.Aim as Am
-use Rattle.board.proofs.places.Aim.Laws as Am′
-use Rattle.board.proofs.places.Spot as Sp
-use Rattle.board.proofs.places.Spot.Laws as Sp′
-use Rattle.board.proofs.registers.United as Un
-use Rattle.board.proofs.registers.United.Laws as Un′
-use Rattle.board.proofs.lines.Lined as Li
-use Rattle.board.proofs.lines.Lined.Laws as Li′
-use Rattle.board.proofs.places.seat_of.Symbol as seat-def
-use Rattle.board.proofs.places.seat_of.Symbol.{name as #board·places·seat-of}
-use Rattle.board.proofs.places.seat_of.Met as seat-thm
-use Rattle.board.proofs.rows.may_turn as may
-use Rattle.board.proofs.rows.may_turn.Symbol as may-def
-use Rattle.board.proofs.rows.may_turn.Symbol.{name as #board·rows·may-turn}
-use Rattle.board.proofs.rows.may_turn.Met as may-thm
-use Rattle.board.proofs.rows.is_uniting as unites
-use Rattle.board.proofs.rows.is_uniting.Symbol as unites-def
-use Rattle.board.proofs.rows.is_uniting.Symbol.{name as #board·rows·is-uniting}
-use Rattle.board.proofs.rows.is_uniting.Met as unites-thm
-use Rattle.board.proofs.places.aim_of as aims
-use Rattle.board.proofs.places.aim_of.Symbol as aims-def
-use Rattle.board.proofs.places.aim_of.Symbol.{name as #board·places·aim-of}
-use Rattle.board.proofs.places.aim_of.Met as aims-thm
-use Rattle.board.proofs.registers.made as register
-use Rattle.board.proofs.registers.made.Symbol as register-def
-use Rattle.board.proofs.registers.made.Symbol.{name as #board·registers·made}
-use Rattle.board.proofs.registers.made.Met as register-thm
-use Rattle.board.proofs.places.spot_of as spots
-use Rattle.board.proofs.places.spot_of.Symbol as spots-def
-use Rattle.board.proofs.places.spot_of.Symbol.{name as #board·places·spot-of}
-use Rattle.board.proofs.places.spot_of.Met as spots-thm
-use Rattle.board.proofs.lines.made as line
-use Rattle.board.proofs.lines.made.Symbol as line-def
-use Rattle.board.proofs.lines.made.Symbol.{name as #board·lines·made}
-use Rattle.board.proofs.lines.made.Met as line-thm
+use Rattle.turns.proofs.Placing.{Placed, seat-below, placed, spot-below}
+use Rattle.turns.proofs.places.Aim as Am
+use Rattle.turns.proofs.places.Aim.Laws as Am′
+use Rattle.turns.proofs.places.Spot as Sp
+use Rattle.turns.proofs.places.Spot.Laws as Sp′
+use Rattle.turns.proofs.registers.United as Un
+use Rattle.turns.proofs.registers.United.Laws as Un′
+use Rattle.turns.proofs.lines.Lined as Li
+use Rattle.turns.proofs.lines.Lined.Laws as Li′
+use Rattle.turns.proofs.places.seat_of.Symbol as seat-def
+use Rattle.turns.proofs.places.seat_of.Symbol.{name as #turns·places·seat-of}
+use Rattle.turns.proofs.places.seat_of.Met as seat-thm
+use Rattle.turns.proofs.rows.may_turn as may
+use Rattle.turns.proofs.rows.may_turn.Symbol as may-def
+use Rattle.turns.proofs.rows.may_turn.Symbol.{name as #turns·rows·may-turn}
+use Rattle.turns.proofs.rows.may_turn.Met as may-thm
+use Rattle.turns.proofs.rows.is_uniting as unites
+use Rattle.turns.proofs.rows.is_uniting.Symbol as unites-def
+use Rattle.turns.proofs.rows.is_uniting.Symbol.{name as #turns·rows·is-uniting}
+use Rattle.turns.proofs.rows.is_uniting.Met as unites-thm
+use Rattle.turns.proofs.places.aim_of as aims
+use Rattle.turns.proofs.places.aim_of.Symbol as aims-def
+use Rattle.turns.proofs.places.aim_of.Symbol.{name as #turns·places·aim-of}
+use Rattle.turns.proofs.places.aim_of.Met as aims-thm
+use Rattle.turns.proofs.registers.made as register
+use Rattle.turns.proofs.registers.made.Symbol as register-def
+use Rattle.turns.proofs.registers.made.Symbol.{name as #turns·registers·made}
+use Rattle.turns.proofs.registers.made.Met as register-thm
+use Rattle.turns.proofs.places.spot_of as spots
+use Rattle.turns.proofs.places.spot_of.Symbol as spots-def
+use Rattle.turns.proofs.places.spot_of.Symbol.{name as #turns·places·spot-of}
+use Rattle.turns.proofs.places.spot_of.Met as spots-thm
+use Rattle.turns.proofs.lines.made as line
+use Rattle.turns.proofs.lines.made.Symbol as line-def
+use Rattle.turns.proofs.lines.made.Symbol.{name as #turns·lines·made}
+use Rattle.turns.proofs.lines.made.Met as line-thm
 use Rattle.turns.proofs.turning.step.Key.{name as #turns·turning·step}
 use Rattle.turns.proofs.turning.step as step
 use Rattle.turns.proofs.turning.step.Statement as stated
@@ -284,7 +284,7 @@ module _ {M : Type 1} (𝓤 : URA M) (H : Heap 𝓤) (A : Atoms 𝓤) (W : Given
         frame ! $ feqI ! (List Val) (vptr b o ∷ []) (vptr b o ∷ []) refl $ fjoin3 ! $ nothing ! $ owned ! u8 (Is u8) (uint-makes 𝓤 H A W w8) i _ (refl, fits) $ fjoin ! $ move ! (1 ∷ 0 ∷ []) $ fjoin ! $
         owned ! Dd.the-row (Is Dd.the-row) (EL.makes Dd.the-type Dd′.the-plain 𝓤 H A) d _ dok $ move ! (1 ∷ 0 ∷ []) $ done !
 
-    module _ (C : Calls 𝓤 H) (Λ : Loops 𝓤 H) (fm : FmC 𝓤 H (W .laws) C) (known-seat : Triple 𝓤 (C #board·places·seat-of) (Seat 𝓤 H A at-mem run)) (known-may : Triple 𝓤 (C #board·rows·may-turn) (May 𝓤 H A at-mem run)) (known-unites : Triple 𝓤 (C #board·rows·is-uniting) (Unites 𝓤 H A at-mem run)) (known-aims : Triple 𝓤 (C #board·places·aim-of) (Aims 𝓤 H A at-mem run)) (known-register : Triple 𝓤 (C #board·registers·made) (Registers 𝓤 H A at-mem run)) (known-spots : Triple 𝓤 (C #board·places·spot-of) (Spots 𝓤 H A at-mem run)) (known-line : Triple 𝓤 (C #board·lines·made) (Lines 𝓤 H A at-mem run)) where
+    module _ (C : Calls 𝓤 H) (Λ : Loops 𝓤 H) (fm : FmC 𝓤 H (W .laws) C) (known-seat : Triple 𝓤 (C #turns·places·seat-of) (Seat 𝓤 H A at-mem run)) (known-may : Triple 𝓤 (C #turns·rows·may-turn) (May 𝓤 H A at-mem run)) (known-unites : Triple 𝓤 (C #turns·rows·is-uniting) (Unites 𝓤 H A at-mem run)) (known-aims : Triple 𝓤 (C #turns·places·aim-of) (Aims 𝓤 H A at-mem run)) (known-register : Triple 𝓤 (C #turns·registers·made) (Registers 𝓤 H A at-mem run)) (known-spots : Triple 𝓤 (C #turns·places·spot-of) (Spots 𝓤 H A at-mem run)) (known-line : Triple 𝓤 (C #turns·lines·made) (Lines 𝓤 H A at-mem run)) where
       walk : ent 𝓤 (onEntry 𝓤 H A step.signature (κ, tt) (q, tt) x at) (WpFn 𝓤 H C Λ code.function (vptr b o ∷ vint w8 i ∷ []) Post)
       walk =
           qed W ((‵ (flft κ q) ⊛ ‵ ftrue) ∷ ‵ (owns (MutRef (named 0) κ Rn.the-row ∷ u8 ∷ []) x at) ∷ []) ∵ split ! $ move ! (2 ∷ []) $ fsplit ! $ fsplit3 ! $ drop ! $ keep ! (0 ∷ 1 ∷ 3 ∷ []) $
@@ -440,7 +440,7 @@ module _ {M : Type 1} (𝓤 : URA M) (H : Heap 𝓤) (A : Atoms 𝓤) (W : Given
           free0 ! $ by ! (exits h₂ (m .did) e (mp .1 .1 .0))))))))))))))))))))))))))))))))))))))))))))))))))))))
 
 module _ {M : Type 1} (𝓤 : URA M) (H : Heap 𝓤) (A : Atoms 𝓤) (W : Given 𝓤 H A) (at-mem : Memory → SProp 𝓤) (run : Routine → Fun 𝓤) where
-  step-walks : (C : Calls 𝓤 H) (Λ : Loops 𝓤 H) → FmC 𝓤 H (W .laws) C → Triple 𝓤 (C #board·places·seat-of) (Seat 𝓤 H A at-mem run) → Triple 𝓤 (C #board·rows·may-turn) (May 𝓤 H A at-mem run) → Triple 𝓤 (C #board·rows·is-uniting) (Unites 𝓤 H A at-mem run) → Triple 𝓤 (C #board·places·aim-of) (Aims 𝓤 H A at-mem run) → Triple 𝓤 (C #board·registers·made) (Registers 𝓤 H A at-mem run) → Triple 𝓤 (C #board·places·spot-of) (Spots 𝓤 H A at-mem run) → Triple 𝓤 (C #board·lines·made) (Lines 𝓤 H A at-mem run)
+  step-walks : (C : Calls 𝓤 H) (Λ : Loops 𝓤 H) → FmC 𝓤 H (W .laws) C → Triple 𝓤 (C #turns·places·seat-of) (Seat 𝓤 H A at-mem run) → Triple 𝓤 (C #turns·rows·may-turn) (May 𝓤 H A at-mem run) → Triple 𝓤 (C #turns·rows·is-uniting) (Unites 𝓤 H A at-mem run) → Triple 𝓤 (C #turns·places·aim-of) (Aims 𝓤 H A at-mem run) → Triple 𝓤 (C #turns·registers·made) (Registers 𝓤 H A at-mem run) → Triple 𝓤 (C #turns·places·spot-of) (Spots 𝓤 H A at-mem run) → Triple 𝓤 (C #turns·lines·made) (Lines 𝓤 H A at-mem run)
       → Walks 𝓤 H A step.ended stayed (WpFn 𝓤 H C Λ code.function) (step.clauses 𝓤 H A at-mem run)
   step-walks C Λ fm known-seat known-may known-unites known-aims known-register known-spots known-line = walked 𝓤 H A step.ended stayed (step.clauses 𝓤 H A at-mem run) (WpFn 𝓤 H C Λ code.function) (λ κs. (ptr-vals, (uint-vals w8, tt))) (λ κs. (mut-tells (named 0) (κs .0) Rn.the-row, (uint-tells w8, tt)))
       (λ κs qs bounds a _ are. via 𝓤 _ (fst∗ 𝓤 _ (emp 𝓤)) (walk 𝓤 H A W at-mem run (a .1 .0) (are .1 .0 .1) (κs .0) (qs .0) (a .0 .ptr .0) (a .0 .ptr .1) (a .0 .name) (a .0 .now) C Λ fm known-seat known-may known-unites known-aims known-register known-spots known-line))
@@ -449,7 +449,7 @@ module _ {M : Type 1} (𝓤 : URA M) (H : Heap 𝓤) (A : Atoms 𝓤) (W : Given
   goes = (goes-ref 𝓤 H A W 1 0 tt (plain (λ _. Rn.the-row)), (goes-none 𝓤 H A W 1 (λ _. u8) yes (λ κs x f. refl), tt))
 
 step-meets : {M : Type 1} (𝓤 : URA M) (H : Heap 𝓤) (A : Atoms 𝓤) (W : Given 𝓤 H A) (at-mem : Memory → SProp 𝓤) (run : Routine → Fun 𝓤) (𝓣 : Tables 𝓤 H)
-    → Triple 𝓤 (𝓣 .C #board·places·seat-of) (Seat 𝓤 H A at-mem run) → Triple 𝓤 (𝓣 .C #board·rows·may-turn) (May 𝓤 H A at-mem run) → Triple 𝓤 (𝓣 .C #board·rows·is-uniting) (Unites 𝓤 H A at-mem run) → Triple 𝓤 (𝓣 .C #board·places·aim-of) (Aims 𝓤 H A at-mem run) → Triple 𝓤 (𝓣 .C #board·registers·made) (Registers 𝓤 H A at-mem run) → Triple 𝓤 (𝓣 .C #board·places·spot-of) (Spots 𝓤 H A at-mem run) → Triple 𝓤 (𝓣 .C #board·lines·made) (Lines 𝓤 H A at-mem run)
+    → Triple 𝓤 (𝓣 .C #turns·places·seat-of) (Seat 𝓤 H A at-mem run) → Triple 𝓤 (𝓣 .C #turns·rows·may-turn) (May 𝓤 H A at-mem run) → Triple 𝓤 (𝓣 .C #turns·rows·is-uniting) (Unites 𝓤 H A at-mem run) → Triple 𝓤 (𝓣 .C #turns·places·aim-of) (Aims 𝓤 H A at-mem run) → Triple 𝓤 (𝓣 .C #turns·registers·made) (Registers 𝓤 H A at-mem run) → Triple 𝓤 (𝓣 .C #turns·places·spot-of) (Spots 𝓤 H A at-mem run) → Triple 𝓤 (𝓣 .C #turns·lines·made) (Lines 𝓤 H A at-mem run)
     → Meets 𝓤 H A step.signature (WpFn 𝓤 H (𝓣 .C) (𝓣 .Λ) code.function) (step.spec 𝓤 H A at-mem run)
 step-meets 𝓤 H A W at-mem run 𝓣 known-seat known-may known-unites known-aims known-register known-spots known-line = walk-meets 𝓤 H A step.ended stayed W (goes 𝓤 H A W at-mem run) (step.clauses 𝓤 H A at-mem run) (WpFn 𝓤 H (𝓣 .C) (𝓣 .Λ) code.function) (WpFn-mono 𝓤 H (W .laws) 𝓣 code.function)
     (step-walks 𝓤 H A W at-mem run (𝓣 .C) (𝓣 .Λ) (fmOf 𝓤 H (W .laws) 𝓣) known-seat known-may known-unites known-aims known-register known-spots known-line)
@@ -460,10 +460,10 @@ step-spec 𝓤 H 𝓜 𝓖 𝓡 =
     entered 𝓤 H (tripleOf 𝓤 H (𝓖 .A) step.signature (step.spec 𝓤 H (𝓖 .A) (𝓜 .mem) (𝓡 .run)))
     (tables 𝓤 H 𝓜 𝓡 code.env .C) (tables 𝓤 H 𝓜 𝓡 code.env .Λ) #turns·turning·step code.function (code.unfolded 𝓤 H 𝓜 𝓡)
     (step-meets 𝓤 H (𝓖 .A) (givenOf 𝓤 H 𝓜 𝓖) (𝓜 .mem) (𝓡 .run) (tablesOf 𝓤 H 𝓜 (tables 𝓤 H 𝓜 𝓡 code.env))
-    (cited 𝓤 H (Seat 𝓤 H (𝓖 .A) (𝓜 .mem) (𝓡 .run)) 𝓜 𝓡 code.env #board·places·seat-of seat-def.routine code.calls-board·places·seat-of (seat-thm.met 𝓤 H 𝓜 𝓖 𝓡))
-    (cited 𝓤 H (May 𝓤 H (𝓖 .A) (𝓜 .mem) (𝓡 .run)) 𝓜 𝓡 code.env #board·rows·may-turn may-def.routine code.calls-board·rows·may-turn (may-thm.met 𝓤 H 𝓜 𝓖 𝓡))
-    (cited 𝓤 H (Unites 𝓤 H (𝓖 .A) (𝓜 .mem) (𝓡 .run)) 𝓜 𝓡 code.env #board·rows·is-uniting unites-def.routine code.calls-board·rows·is-uniting (unites-thm.met 𝓤 H 𝓜 𝓖 𝓡))
-    (cited 𝓤 H (Aims 𝓤 H (𝓖 .A) (𝓜 .mem) (𝓡 .run)) 𝓜 𝓡 code.env #board·places·aim-of aims-def.routine code.calls-board·places·aim-of (aims-thm.met 𝓤 H 𝓜 𝓖 𝓡))
-    (cited 𝓤 H (Registers 𝓤 H (𝓖 .A) (𝓜 .mem) (𝓡 .run)) 𝓜 𝓡 code.env #board·registers·made register-def.routine code.calls-board·registers·made (register-thm.met 𝓤 H 𝓜 𝓖 𝓡))
-    (cited 𝓤 H (Spots 𝓤 H (𝓖 .A) (𝓜 .mem) (𝓡 .run)) 𝓜 𝓡 code.env #board·places·spot-of spots-def.routine code.calls-board·places·spot-of (spots-thm.met 𝓤 H 𝓜 𝓖 𝓡))
-    (cited 𝓤 H (Lines 𝓤 H (𝓖 .A) (𝓜 .mem) (𝓡 .run)) 𝓜 𝓡 code.env #board·lines·made line-def.routine code.calls-board·lines·made (line-thm.met 𝓤 H 𝓜 𝓖 𝓡)))
+    (cited 𝓤 H (Seat 𝓤 H (𝓖 .A) (𝓜 .mem) (𝓡 .run)) 𝓜 𝓡 code.env #turns·places·seat-of seat-def.routine code.calls-turns·places·seat-of (seat-thm.met 𝓤 H 𝓜 𝓖 𝓡))
+    (cited 𝓤 H (May 𝓤 H (𝓖 .A) (𝓜 .mem) (𝓡 .run)) 𝓜 𝓡 code.env #turns·rows·may-turn may-def.routine code.calls-turns·rows·may-turn (may-thm.met 𝓤 H 𝓜 𝓖 𝓡))
+    (cited 𝓤 H (Unites 𝓤 H (𝓖 .A) (𝓜 .mem) (𝓡 .run)) 𝓜 𝓡 code.env #turns·rows·is-uniting unites-def.routine code.calls-turns·rows·is-uniting (unites-thm.met 𝓤 H 𝓜 𝓖 𝓡))
+    (cited 𝓤 H (Aims 𝓤 H (𝓖 .A) (𝓜 .mem) (𝓡 .run)) 𝓜 𝓡 code.env #turns·places·aim-of aims-def.routine code.calls-turns·places·aim-of (aims-thm.met 𝓤 H 𝓜 𝓖 𝓡))
+    (cited 𝓤 H (Registers 𝓤 H (𝓖 .A) (𝓜 .mem) (𝓡 .run)) 𝓜 𝓡 code.env #turns·registers·made register-def.routine code.calls-turns·registers·made (register-thm.met 𝓤 H 𝓜 𝓖 𝓡))
+    (cited 𝓤 H (Spots 𝓤 H (𝓖 .A) (𝓜 .mem) (𝓡 .run)) 𝓜 𝓡 code.env #turns·places·spot-of spots-def.routine code.calls-turns·places·spot-of (spots-thm.met 𝓤 H 𝓜 𝓖 𝓡))
+    (cited 𝓤 H (Lines 𝓤 H (𝓖 .A) (𝓜 .mem) (𝓡 .run)) 𝓜 𝓡 code.env #turns·lines·made line-def.routine code.calls-turns·lines·made (line-thm.met 𝓤 H 𝓜 𝓖 𝓡)))

@@ -1,0 +1,68 @@
+// A station's row: whether it has settled, where its next operation goes, and whether a turn may be made for it.
+ghost use mathlib.Core.Path.{_≡_};
+ghost use Rattle.method.specs.Demand.{isSettled};
+ghost use Rattle.turns.specs.Moves.{mayTurn, isUniting};
+use method::Row;
+use method::State;
+
+// Whether the row's station has settled.
+pub fn is_settled(row: Row) -> bool
+    ensures { λ r. ⌜ r ≡ isSettled (row .state) ⌝ }
+{
+    let state = row.state;
+    match state {
+        State::NotBegun { stocks: _ } => false,
+        State::Uniting {
+            level: _,
+            own: _,
+            other: _,
+            side: _,
+            round: _,
+        } => false,
+        State::Gathering {
+            set: _,
+            station: _,
+            stocks: _,
+        } => false,
+        State::Settled { set: _, stocks: _ } => true,
+    }
+}
+
+// Whether the row's station is at a union, so that its next operation is on a register.
+pub fn is_uniting(row: Row) -> bool
+    ensures { λ r. ⌜ r ≡ isUniting (row .state) ⌝ }
+{
+    let state = row.state;
+    match state {
+        State::NotBegun { stocks: _ } => false,
+        State::Uniting {
+            level: _,
+            own: _,
+            other: _,
+            side: _,
+            round: _,
+        } => true,
+        State::Gathering {
+            set: _,
+            station: _,
+            stocks: _,
+        } => false,
+        State::Settled { set: _, stocks: _ } => false,
+    }
+}
+
+// Whether i is a station of n, and its row has room in its count.
+pub fn may_turn(n: u8, i: u8, row: Row) -> bool
+    ensures { λ r. ⌜ r ≡ mayTurn n i row ⌝ }
+{
+    if i == 0 {
+        return false;
+    }
+    if n < i {
+        return false;
+    }
+    if 16 < i {
+        return false;
+    }
+    row.count < 65535
+}
