@@ -1,6 +1,6 @@
 // Station or stock number i, counted from 1, is the binary digit 2^(i-1).
 ghost use mathlib.Core.Path.{_≡_};
-ghost use Rattle.sets.specs.Mask.{size, union, aloneIn, holds, memberAfter};
+ghost use Rattle.sets.specs.Mask.{size, union, aloneIn, memberAfter};
 
 // How many members the set has.
 pub fn size_of(s: u64) -> u32
@@ -29,19 +29,6 @@ pub fn alone(i: u8) -> u64
     1u64 << (i - 1)
 }
 
-// Whether i is in the set.
-pub fn is_in(s: u64, i: u8) -> bool
-    ensures { λ r. ⌜ r ≡ holds s i ⌝ }
-{
-    if i == 0 {
-        return false;
-    }
-    if 64 < i {
-        return false;
-    }
-    (s >> (i - 1)) % 2 == 1
-}
-
 // The next member above i, or 0 where there is none.
 pub fn member_after(s: u64, i: u8) -> u8
     ensures { λ r. ⌜ r ≡ memberAfter s i ⌝ }
@@ -55,11 +42,4 @@ pub fn member_after(s: u64, i: u8) -> u8
     }
     let gap = u64::trailing_zeros(rest) as u8;
     i + gap + 1
-}
-
-// The lowest member, or 0 of the empty set.
-pub fn lowest(s: u64) -> u8
-    ensures { λ r. ⌜ r ≡ memberAfter s 0 ⌝ }
-{
-    member_after(s, 0)
 }

@@ -5,6 +5,7 @@ mod Within
 mod Values
 mod Record
 mod Calling
+mod Dying
 mod Seating
 mod Stepping
 mod Shape

@@ -26,7 +26,7 @@ use ghost.Atoms.{Atoms, sem}
 use contract.Monad.{Fun, fact}
 use contract.Running.{givenOf, tables, tablesOf}
 use types.Kit.{Given, Item, ‵, raw, _⊛_, some, given, later, _$_, _∵_, !, qed, by, move, keep, drop, use0, use1, use2, use3, split, join, pick, learn, fsplit, fsplit3, fjoin, fjoin3, feqI, await, updating, now as at-once, suffices, show, check, frame, done, atRet}
-use types.Run.{look, init, store, forget, stop, hop, fld, from, load, lit, un, bin, addr, and-then, no-more, of-opd, assigns, assigns-last, land, blocks, branches, first, loops, again, exec, returns, returns-within, enter, alloc1, alloc0, params1, pass1, pass0, free1, free0}
+use types.Run.{look, init, store, forget, stop, hop, fld, from, load, lit, un, bin, addr, and-then, no-more, of-opd, assigns, assigns-last, land, blocks, branches, first, loops, again, exec, returns, returns-within, enter, alloc1, alloc0, params1, pass1, pass0}
 use types.Part.{whole, sub, look-in}
 use types.Share.{arr-parts}
 use types.Mut.{open-ref, close-ref}
@@ -70,6 +70,7 @@ use Rattle.turns.specs.Playing.{isUnwritten, playedOf}
 use Rattle.turns.proofs.Values.{didVal, rowVal, runVal}
 use Rattle.turns.proofs.Within.{within-self, within-bytes, knows, sees}
 use Rattle.turns.proofs.Record.{row-in}
+use Rattle.turns.proofs.Dying.{empty, full, dies}
 use Rattle.turns.proofs.Calling.{calls-lent, calls-plain, last-said, tests, may-leave, holds, fails, not-fails}
 use Rattle.turns.proofs.Seating.{Seat, to-seat, goes-seat, said-seat, told-seat}
 use Rattle.turns.proofs.Shape.{shaped}
@@ -305,8 +306,8 @@ module _ {M : Type 1} (𝓤 : URA M) (H : Heap 𝓤) (A : Atoms 𝓤) (W : Given
         assigns ! (of-opd ! (load ! (from ! (stop !)) (look ! 33 refl))) (from ! (stop !)) (init ! 39 refl (tt, record { fits = fits })) $
         move ! (0 ∷ 3 ∷ []) $ shuts-slice ! tt u8 q′ ys b₂ o₂ $
         -- [the token of the turns; the reference; its token; what the turns own; _17; …; down to _0; …]
-        returns-within ! Post refl (look ! 38 refl) $ forget ! 38 refl $ forget ! 36 refl $ forget ! 34 refl $ forget ! 32 refl $ forget ! 30 refl $ forget ! 28 refl $ forget ! 26 refl $ forget ! 24 refl $ forget ! 22 refl $ forget ! 20 refl $ forget ! 18 refl $ forget ! 16 refl $ forget ! 14 refl $ forget ! 12 refl $ forget ! 10 refl $ forget ! 8 refl $ forget ! 6 refl $ forget ! 4 refl $
-        move ! (38 ∷ 39 ∷ []) $ free1 ! $ move ! (36 ∷ 37 ∷ []) $ free1 ! $ move ! (34 ∷ 35 ∷ []) $ free1 ! $ move ! (32 ∷ 33 ∷ []) $ free1 ! $ move ! (30 ∷ 31 ∷ []) $ free1 ! $ move ! (28 ∷ 29 ∷ []) $ free1 ! $ move ! (26 ∷ 27 ∷ []) $ free1 ! $ move ! (24 ∷ 25 ∷ []) $ free1 ! $ move ! (22 ∷ 23 ∷ []) $ free1 ! $ move ! (20 ∷ 21 ∷ []) $ free1 ! $ move ! (18 ∷ 19 ∷ []) $ free1 ! $ move ! (16 ∷ 17 ∷ []) $ free1 ! $ move ! (14 ∷ 15 ∷ []) $ free1 ! $ move ! (12 ∷ 13 ∷ []) $ free1 ! $ move ! (10 ∷ 11 ∷ []) $ free1 ! $ move ! (8 ∷ 9 ∷ []) $ free1 ! $ move ! (6 ∷ 7 ∷ []) $ free1 ! $ move ! (4 ∷ 5 ∷ []) $ free1 ! $ free0 ! $
+        returns-within ! Post refl (look ! 38 refl) $
+        dies ! (_ ∷ _ ∷ _ ∷ _ ∷ []) (full _ _ _ ∷ full _ _ _ ∷ full _ _ _ ∷ full _ _ _ ∷ full _ _ _ ∷ full _ _ _ ∷ full _ _ _ ∷ full _ _ _ ∷ full _ _ _ ∷ full _ _ _ ∷ full _ _ _ ∷ full _ _ _ ∷ full _ _ _ ∷ full _ _ _ ∷ full _ _ _ ∷ full _ _ _ ∷ full _ _ _ ∷ full _ _ _ ∷ []) $
         by ! (exits (stepOf r i .run) t fits (ap (λ (y : Run). record { run = y; at = t }) same ∙ e)))
         (λ go-on.
         let next : Steps h ys (stepOf r i .run) (t + 1) = steps-more h ys r t (stepOf r i) z st tl refl told (fails z go-on) in
@@ -329,8 +330,8 @@ module _ {M : Type 1} (𝓤 : URA M) (H : Heap 𝓤) (A : Atoms 𝓤) (W : Given
         assigns ! (of-opd ! (load ! (from ! (stop !)) (look ! 33 refl))) (from ! (stop !)) (init ! 39 refl (tt, record { fits = fits })) $
         move ! (0 ∷ 3 ∷ []) $ shuts-slice ! tt u8 q′ ys b₂ o₂ $
         -- [the token of the turns; the reference; its token; what the turns own; _17; …; down to _0; …]
-        returns ! (look ! 38 refl) $ forget ! 38 refl $ forget ! 36 refl $ forget ! 34 refl $ forget ! 32 refl $ forget ! 24 refl $ forget ! 22 refl $
-        move ! (38 ∷ 39 ∷ []) $ free1 ! $ move ! (36 ∷ 37 ∷ []) $ free1 ! $ move ! (34 ∷ 35 ∷ []) $ free1 ! $ move ! (32 ∷ 33 ∷ []) $ free1 ! $ move ! (30 ∷ 31 ∷ []) $ free1 ! $ move ! (28 ∷ 29 ∷ []) $ free1 ! $ move ! (26 ∷ 27 ∷ []) $ free1 ! $ move ! (24 ∷ 25 ∷ []) $ free1 ! $ move ! (22 ∷ 23 ∷ []) $ free1 ! $ move ! (20 ∷ 21 ∷ []) $ free1 ! $ move ! (18 ∷ 19 ∷ []) $ free1 ! $ move ! (16 ∷ 17 ∷ []) $ free1 ! $ move ! (14 ∷ 15 ∷ []) $ free1 ! $ move ! (12 ∷ 13 ∷ []) $ free1 ! $ move ! (10 ∷ 11 ∷ []) $ free1 ! $ move ! (8 ∷ 9 ∷ []) $ free1 ! $ move ! (6 ∷ 7 ∷ []) $ free1 ! $ move ! (4 ∷ 5 ∷ []) $ free1 ! $ free0 ! $
+        returns ! (look ! 38 refl) $
+        dies ! (_ ∷ _ ∷ _ ∷ _ ∷ []) (full _ _ _ ∷ full _ _ _ ∷ full _ _ _ ∷ full _ _ _ ∷ empty _ _ ∷ empty _ _ ∷ empty _ _ ∷ full _ _ _ ∷ full _ _ _ ∷ empty _ _ ∷ empty _ _ ∷ empty _ _ ∷ empty _ _ ∷ empty _ _ ∷ empty _ _ ∷ empty _ _ ∷ empty _ _ ∷ empty _ _ ∷ []) $
         by ! (exits r t fits e))
         )) (h, 0))))))))))))))))))))
 
