@@ -14,27 +14,17 @@ pub fn shown_of(state: State) -> Shown
     ensures { λ r. ⌜ r ≡ shownOf state ⌝ }
 {
     match state {
-        State::NotBegun { stocks: _ } => Shown {
+        State::NotBegun { .. } => Shown {
             number: 0,
             stations: 0,
             stocks: 0,
         },
-        State::Uniting {
-            level: _,
-            own: _,
-            other: _,
-            side: _,
-            round: _,
-        } => Shown {
+        State::Uniting { .. } => Shown {
             number: 1,
             stations: 0,
             stocks: 0,
         },
-        State::Gathering {
-            set: _,
-            station: _,
-            stocks: _,
-        } => Shown {
+        State::Gathering { .. } => Shown {
             number: 1,
             stations: 0,
             stocks: 0,

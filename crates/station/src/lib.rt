@@ -27,18 +27,14 @@ pub fn next_op(i: u8, state: State) -> Op
             own,
             other,
             side,
-            round: _,
+            ..
         } => reading::reach(
             level,
             uniting::array_in_hand(side, level, i),
             uniting::in_hand(side, own, other),
         ),
-        State::Gathering {
-            set: _,
-            station,
-            stocks: _,
-        } => Op::ReadLine { station: station },
-        State::Settled { set: _, stocks: _ } => Op::Rest,
+        State::Gathering { station, .. } => Op::ReadLine { station: station },
+        State::Settled { .. } => Op::Rest,
     }
 }
 
@@ -54,7 +50,7 @@ pub fn absorbed(n: u8, i: u8, state: State, v: u64) -> State
         return state;
     }
     match state {
-        State::NotBegun { stocks: _ } => climbing::climbed(n, 0, sets::mask::alone(i)),
+        State::NotBegun { .. } => climbing::climbed(n, 0, sets::mask::alone(i)),
         State::Uniting {
             level,
             own,
@@ -67,6 +63,6 @@ pub fn absorbed(n: u8, i: u8, state: State, v: u64) -> State
             station,
             stocks,
         } => climbing::gathered(set, station, sets::mask::union_of(stocks, v)),
-        State::Settled { set: _, stocks: _ } => state,
+        State::Settled { .. } => state,
     }
 }

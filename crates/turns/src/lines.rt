@@ -92,18 +92,12 @@ pub fn made(depth: u8, i: u8, row: Row, on: bool, line: Line) -> Lined
     let state = row.state;
     match state {
         State::NotBegun { stocks } => posted(depth, i, row.count, stocks),
-        State::Uniting {
-            level: _,
-            own: _,
-            other: _,
-            side: _,
-            round: _,
-        } => idle(row, line),
+        State::Uniting { .. } => idle(row, line),
         State::Gathering {
             set,
             station,
             stocks,
         } => gathered(row.count, set, station, stocks, on, line),
-        State::Settled { set: _, stocks: _ } => idle(row, line),
+        State::Settled { .. } => idle(row, line),
     }
 }

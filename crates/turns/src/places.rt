@@ -69,19 +69,19 @@ pub fn aim_of(i: u8, row: Row) -> Aim
     let state = row.state;
     let op = station::next_op(i, state);
     match op {
-        Op::Post { stocks: _ } => off_record(op),
+        Op::Post { .. } => off_record(op),
         Op::Write {
             level,
             array,
             register,
-            set: _,
+            ..
         } => at_register(op, level, array, register),
         Op::Read {
             level,
             array,
             register,
         } => at_register(op, level, array, register),
-        Op::ReadLine { station: _ } => off_record(op),
+        Op::ReadLine { .. } => off_record(op),
         Op::Rest => off_record(op),
     }
 }
@@ -118,19 +118,9 @@ pub fn spot_of(i: u8, row: Row) -> Spot
 {
     let state = row.state;
     match state {
-        State::NotBegun { stocks: _ } => line_of(i),
-        State::Uniting {
-            level: _,
-            own: _,
-            other: _,
-            side: _,
-            round: _,
-        } => no_line(),
-        State::Gathering {
-            set: _,
-            station,
-            stocks: _,
-        } => line_of(station),
-        State::Settled { set: _, stocks: _ } => no_line(),
+        State::NotBegun { .. } => line_of(i),
+        State::Uniting { .. } => no_line(),
+        State::Gathering { station, .. } => line_of(station),
+        State::Settled { .. } => no_line(),
     }
 }

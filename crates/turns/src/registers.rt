@@ -24,28 +24,19 @@ fn effect_of(on: bool, held: u64, op: Op) -> Effect
     ensures { λ r. ⌜ r ≡ effectOf on held op ⌝ }
 {
     match op {
-        Op::Post { stocks: _ } => Effect {
+        Op::Post { .. } => Effect {
             brought: 0,
             set: held,
         },
-        Op::Write {
-            level: _,
-            array: _,
-            register: _,
-            set,
-        } => Effect {
+        Op::Write { set, .. } => Effect {
             brought: 0,
             set: either(on, set, held),
         },
-        Op::Read {
-            level: _,
-            array: _,
-            register: _,
-        } => Effect {
+        Op::Read { .. } => Effect {
             brought: either(on, held, 0),
             set: held,
         },
-        Op::ReadLine { station: _ } => Effect {
+        Op::ReadLine { .. } => Effect {
             brought: 0,
             set: held,
         },

@@ -11,20 +11,10 @@ pub fn is_settled(row: Row) -> bool
 {
     let state = row.state;
     match state {
-        State::NotBegun { stocks: _ } => false,
-        State::Uniting {
-            level: _,
-            own: _,
-            other: _,
-            side: _,
-            round: _,
-        } => false,
-        State::Gathering {
-            set: _,
-            station: _,
-            stocks: _,
-        } => false,
-        State::Settled { set: _, stocks: _ } => true,
+        State::NotBegun { .. } => false,
+        State::Uniting { .. } => false,
+        State::Gathering { .. } => false,
+        State::Settled { .. } => true,
     }
 }
 
@@ -34,20 +24,10 @@ pub fn is_uniting(row: Row) -> bool
 {
     let state = row.state;
     match state {
-        State::NotBegun { stocks: _ } => false,
-        State::Uniting {
-            level: _,
-            own: _,
-            other: _,
-            side: _,
-            round: _,
-        } => true,
-        State::Gathering {
-            set: _,
-            station: _,
-            stocks: _,
-        } => false,
-        State::Settled { set: _, stocks: _ } => false,
+        State::NotBegun { .. } => false,
+        State::Uniting { .. } => true,
+        State::Gathering { .. } => false,
+        State::Settled { .. } => false,
     }
 }
 
