@@ -1,11 +1,13 @@
 // An order of turns on the run record.
 ghost use mathlib.Core.Path.{_≡_};
+ghost use Rattle.method.specs.Demand.{isSettled};
 ghost use Rattle.turns.specs.Playing.{isUnwritten, stepped, stopsAt, playedOf};
 use super::places;
-use super::rows;
 use super::turning;
 use method::Did;
+use method::Row;
 use method::Run;
+use method::State;
 
 // The record when the turns are over, and how many were made: all, or those before the first that would read a line never written.
 pub struct Played {
@@ -24,6 +26,19 @@ fn is_unwritten(did: Did) -> bool
     }
 }
 
+// Whether the row's station has settled.
+fn is_settled(row: Row) -> bool
+    ensures { λ r. ⌜ r ≡ isSettled (row .state) ⌝ }
+{
+    let state = row.state;
+    match state {
+        State::NotBegun { .. } => false,
+        State::Uniting { .. } => false,
+        State::Gathering { .. } => false,
+        State::Settled { .. } => true,
+    }
+}
+
 // Every turn of the order, one after the other, in place, and how many were made.
 pub fn play(run: &mut Run, turns: &[u8]) -> usize
     ensures { λ r. ⌜ (now (run .exit) ≡ stepped (now (run .entry)) (now (turns .entry)) (stopsAt (now (run .entry)) (now (turns .entry))))
@@ -35,7 +50,7 @@ pub fn play(run: &mut Run, turns: &[u8]) -> usize
         // The turn of a settled station is idle, and most turns of a long order are: its row alone tells, and nothing is written back.
         let at = places::seat_of(i);
         let row = run.rows[at];
-        if !rows::is_settled(row) {
+        if !is_settled(row) {
             if is_unwritten(turning::step(run, i)) {
                 return t;
             }

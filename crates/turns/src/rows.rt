@@ -1,22 +1,8 @@
-// A station's row: whether it has settled, where its next operation goes, and whether a turn may be made for it.
+// A station's row: where its next operation goes, and whether a turn may be made for it.
 ghost use mathlib.Core.Path.{_≡_};
-ghost use Rattle.method.specs.Demand.{isSettled};
 ghost use Rattle.turns.specs.Moves.{mayTurn, isUniting};
 use method::Row;
 use method::State;
-
-// Whether the row's station has settled.
-pub fn is_settled(row: Row) -> bool
-    ensures { λ r. ⌜ r ≡ isSettled (row .state) ⌝ }
-{
-    let state = row.state;
-    match state {
-        State::NotBegun { .. } => false,
-        State::Uniting { .. } => false,
-        State::Gathering { .. } => false,
-        State::Settled { .. } => true,
-    }
-}
 
 // Whether the row's station is at a union, so that its next operation is on a register.
 pub fn is_uniting(row: Row) -> bool

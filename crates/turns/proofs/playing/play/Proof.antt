@@ -79,10 +79,10 @@ use Rattle.turns.proofs.Orders.{Steps, steps-none, steps-more, steps-st
 use Rattle.turns.proofs.places.seat_of.Symbol as seat-def
 use Rattle.turns.proofs.places.seat_of.Symbol.{name as #turns·places·seat-of}
 use Rattle.turns.proofs.places.seat_of.Met as seat-thm
-use Rattle.turns.proofs.rows.is_settled as settled
-use Rattle.turns.proofs.rows.is_settled.Symbol as settled-def
-use Rattle.turns.proofs.rows.is_settled.Symbol.{name as #turns·rows·is-settled}
-use Rattle.turns.proofs.rows.is_settled.Met as settled-thm
+use Rattle.turns.proofs.playing.is_settled as settled
+use Rattle.turns.proofs.playing.is_settled.Symbol as settled-def
+use Rattle.turns.proofs.playing.is_settled.Symbol.{name as #turns·playing·is-settled}
+use Rattle.turns.proofs.playing.is_settled.Met as settled-thm
 use Rattle.turns.proofs.turning.step as step
 use Rattle.turns.proofs.turning.step.Symbol as step-def
 use Rattle.turns.proofs.turning.step.Symbol.{name as #turns·turning·step}
@@ -243,7 +243,7 @@ module _ {M : Type 1} (𝓤 : URA M) (H : Heap 𝓤) (A : Atoms 𝓤) (W : Given
     abbrev Inv : Run × ℕ → List (Item 𝓤)
     Inv u = given (Steps h ys (u .0) (u .1)) (‵ ftrue) ∷ At (u .0) (u .1)
 
-  module _ (𝓣 : Tables 𝓤 H) (fm : FmC 𝓤 H (W .laws) (𝓣 .C)) (known-seat : Triple 𝓤 (𝓣 .C #turns·places·seat-of) (Seat 𝓤 H A at-mem run)) (known-settled : Triple 𝓤 (𝓣 .C #turns·rows·is-settled) (IsSettled 𝓤 H A at-mem run)) (known-step : Triple 𝓤 (𝓣 .C #turns·turning·step) (Step 𝓤 H A at-mem run)) (known-unw : Triple 𝓤 (𝓣 .C #turns·playing·is-unwritten) (Unw 𝓤 H A at-mem run)) where
+  module _ (𝓣 : Tables 𝓤 H) (fm : FmC 𝓤 H (W .laws) (𝓣 .C)) (known-seat : Triple 𝓤 (𝓣 .C #turns·places·seat-of) (Seat 𝓤 H A at-mem run)) (known-settled : Triple 𝓤 (𝓣 .C #turns·playing·is-settled) (IsSettled 𝓤 H A at-mem run)) (known-step : Triple 𝓤 (𝓣 .C #turns·turning·step) (Step 𝓤 H A at-mem run)) (known-unw : Triple 𝓤 (𝓣 .C #turns·playing·is-unwritten) (Unw 𝓤 H A at-mem run)) where
     walk : ent 𝓤 (onEntry 𝓤 H A play.signature (κ, (κ₂, tt)) (q, (q₂, tt)) x at) (WpFn 𝓤 H (𝓣 .C) (𝓣 .Λ) code.function (vptr b o ∷ sliceVal (b₂, o₂) (length ys) ∷ []) Post)
     unfolding afterTurn
     walk =
@@ -336,7 +336,7 @@ module _ {M : Type 1} (𝓤 : URA M) (H : Heap 𝓤) (A : Atoms 𝓤) (W : Given
         )) (h, 0))))))))))))))))))))
 
 module _ {M : Type 1} (𝓤 : URA M) (H : Heap 𝓤) (A : Atoms 𝓤) (W : Given 𝓤 H A) (at-mem : Memory → SProp 𝓤) (run : Routine → Fun 𝓤) where
-  play-walks : (𝓣 : Tables 𝓤 H) → FmC 𝓤 H (W .laws) (𝓣 .C) → Triple 𝓤 (𝓣 .C #turns·places·seat-of) (Seat 𝓤 H A at-mem run) → Triple 𝓤 (𝓣 .C #turns·rows·is-settled) (IsSettled 𝓤 H A at-mem run) → Triple 𝓤 (𝓣 .C #turns·turning·step) (Step 𝓤 H A at-mem run) → Triple 𝓤 (𝓣 .C #turns·playing·is-unwritten) (Unw 𝓤 H A at-mem run)
+  play-walks : (𝓣 : Tables 𝓤 H) → FmC 𝓤 H (W .laws) (𝓣 .C) → Triple 𝓤 (𝓣 .C #turns·places·seat-of) (Seat 𝓤 H A at-mem run) → Triple 𝓤 (𝓣 .C #turns·playing·is-settled) (IsSettled 𝓤 H A at-mem run) → Triple 𝓤 (𝓣 .C #turns·turning·step) (Step 𝓤 H A at-mem run) → Triple 𝓤 (𝓣 .C #turns·playing·is-unwritten) (Unw 𝓤 H A at-mem run)
       → Walks 𝓤 H A play.ended stayed (WpFn 𝓤 H (𝓣 .C) (𝓣 .Λ) code.function) (play.clauses 𝓤 H A at-mem run)
   play-walks 𝓣 fm known-seat known-settled known-step known-unw = walked 𝓤 H A play.ended stayed (play.clauses 𝓤 H A at-mem run) (WpFn 𝓤 H (𝓣 .C) (𝓣 .Λ) code.function) (λ κs. (ptr-vals, (slice-vals, tt))) (λ κs. (mut-tells (named 0) (κs .0) Rn.the-row, (shr-slice-tells (named 1) (κs .1 .0) u8, tt)))
       (λ κs qs bounds a _ are. via 𝓤 _ (fst∗ 𝓤 _ (emp 𝓤)) (walk 𝓤 H A W at-mem run (κs .0) (κs .1 .0) (qs .0) (qs .1 .0) (a .0 .ptr .0) (a .0 .ptr .1) (a .0 .name) (a .0 .now) (a .1 .0) (are .1 .0 .0 .1) 𝓣 fm known-seat known-settled known-step known-unw))
@@ -345,7 +345,7 @@ module _ {M : Type 1} (𝓤 : URA M) (H : Heap 𝓤) (A : Atoms 𝓤) (W : Given
   goes = (goes-ref 𝓤 H A W 2 0 tt (plain (λ _. Rn.the-row)), (goes-none-slice 𝓤 H A W 2 (1 ∷ []) tt (plain (λ _. u8)) yes, tt))
 
 play-meets : {M : Type 1} (𝓤 : URA M) (H : Heap 𝓤) (A : Atoms 𝓤) (W : Given 𝓤 H A) (at-mem : Memory → SProp 𝓤) (run : Routine → Fun 𝓤) (𝓣 : Tables 𝓤 H)
-    → Triple 𝓤 (𝓣 .C #turns·places·seat-of) (Seat 𝓤 H A at-mem run) → Triple 𝓤 (𝓣 .C #turns·rows·is-settled) (IsSettled 𝓤 H A at-mem run) → Triple 𝓤 (𝓣 .C #turns·turning·step) (Step 𝓤 H A at-mem run) → Triple 𝓤 (𝓣 .C #turns·playing·is-unwritten) (Unw 𝓤 H A at-mem run)
+    → Triple 𝓤 (𝓣 .C #turns·places·seat-of) (Seat 𝓤 H A at-mem run) → Triple 𝓤 (𝓣 .C #turns·playing·is-settled) (IsSettled 𝓤 H A at-mem run) → Triple 𝓤 (𝓣 .C #turns·turning·step) (Step 𝓤 H A at-mem run) → Triple 𝓤 (𝓣 .C #turns·playing·is-unwritten) (Unw 𝓤 H A at-mem run)
     → Meets 𝓤 H A play.signature (WpFn 𝓤 H (𝓣 .C) (𝓣 .Λ) code.function) (play.spec 𝓤 H A at-mem run)
 play-meets 𝓤 H A W at-mem run 𝓣 known-seat known-settled known-step known-unw = walk-meets 𝓤 H A play.ended stayed W (goes 𝓤 H A W at-mem run) (play.clauses 𝓤 H A at-mem run) (WpFn 𝓤 H (𝓣 .C) (𝓣 .Λ) code.function) (WpFn-mono 𝓤 H (W .laws) 𝓣 code.function)
     (play-walks 𝓤 H A W at-mem run 𝓣 (fmOf 𝓤 H (W .laws) 𝓣) known-seat known-settled known-step known-unw)
@@ -357,6 +357,6 @@ play-spec 𝓤 H 𝓜 𝓖 𝓡 =
     (tables 𝓤 H 𝓜 𝓡 code.env .C) (tables 𝓤 H 𝓜 𝓡 code.env .Λ) #turns·playing·play code.function (code.unfolded 𝓤 H 𝓜 𝓡)
     (play-meets 𝓤 H (𝓖 .A) (givenOf 𝓤 H 𝓜 𝓖) (𝓜 .mem) (𝓡 .run) (tablesOf 𝓤 H 𝓜 (tables 𝓤 H 𝓜 𝓡 code.env))
     (cited 𝓤 H (Seat 𝓤 H (𝓖 .A) (𝓜 .mem) (𝓡 .run)) 𝓜 𝓡 code.env #turns·places·seat-of seat-def.routine code.calls-turns·places·seat-of (seat-thm.met 𝓤 H 𝓜 𝓖 𝓡))
-    (cited 𝓤 H (IsSettled 𝓤 H (𝓖 .A) (𝓜 .mem) (𝓡 .run)) 𝓜 𝓡 code.env #turns·rows·is-settled settled-def.routine code.calls-turns·rows·is-settled (settled-thm.met 𝓤 H 𝓜 𝓖 𝓡))
+    (cited 𝓤 H (IsSettled 𝓤 H (𝓖 .A) (𝓜 .mem) (𝓡 .run)) 𝓜 𝓡 code.env #turns·playing·is-settled settled-def.routine code.calls-turns·playing·is-settled (settled-thm.met 𝓤 H 𝓜 𝓖 𝓡))
     (cited 𝓤 H (Step 𝓤 H (𝓖 .A) (𝓜 .mem) (𝓡 .run)) 𝓜 𝓡 code.env #turns·turning·step step-def.routine code.calls-turns·turning·step (step-thm.met 𝓤 H 𝓜 𝓖 𝓡))
     (cited 𝓤 H (Unw 𝓤 H (𝓖 .A) (𝓜 .mem) (𝓡 .run)) 𝓜 𝓡 code.env #turns·playing·is-unwritten unw-def.routine code.calls-turns·playing·is-unwritten (unw-thm.met 𝓤 H 𝓜 𝓖 𝓡)))

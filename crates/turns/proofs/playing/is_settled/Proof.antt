@@ -1,6 +1,6 @@
 use borrow.Author.Needs.{needs}
-use Rattle.turns.proofs.rows.is_settled.Statement.{statement}
-use Rattle.turns.proofs.rows.is_settled.Tie as tie
+use Rattle.turns.proofs.playing.is_settled.Statement.{statement}
+use Rattle.turns.proofs.playing.is_settled.Tie as tie
 
 enum-told : tie.Need-enum-told
 enum-told c = search needs
