@@ -7,6 +7,8 @@ use method::Line;
 use method::Row;
 use method::Run;
 use method::State;
+use sets::limits::LEVELS;
+use sets::limits::STATIONS;
 
 // N: the least number with 2^N at least n.
 pub fn depth_of(n: u8) -> u8
@@ -22,15 +24,15 @@ pub fn depth_of(n: u8) -> u8
 }
 
 // A station that has not begun, with its stocks, for each input.
-fn waiting(inputs: [u64; 16]) -> [Row; 16]
+fn waiting(inputs: [u64; STATIONS]) -> [Row; STATIONS]
     ensures { λ r. ⌜ r ≡ map notBegun inputs ⌝ }
 {
     let mut rows = [Row {
         state: State::NotBegun { stocks: 0 },
         count: 0,
-    }; 16];
+    }; STATIONS];
     let mut i = 0;
-    while i < 16 {
+    while i < STATIONS {
         rows[i] = Row {
             state: State::NotBegun { stocks: inputs[i] },
             count: 0,
@@ -41,17 +43,19 @@ fn waiting(inputs: [u64; 16]) -> [Row; 16]
 }
 
 // The record with n stations and their inputs, nothing posted and every register empty.
-pub fn fresh(n: u8, inputs: [u64; 16]) -> Run
+pub fn fresh(n: u8, inputs: [u64; STATIONS]) -> Run
     ensures { λ r. ⌜ r ≡ fresh n inputs ⌝ }
 {
     Run {
         stations: n,
         depth: depth_of(n),
-        board: [Level { sets: [0; 16] }; 4],
+        board: [Level {
+            sets: [0; STATIONS],
+        }; LEVELS],
         lines: [Line {
             stocks: 0,
             written: false,
-        }; 16],
+        }; STATIONS],
         rows: waiting(inputs),
     }
 }

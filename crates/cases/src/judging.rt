@@ -7,6 +7,7 @@ use super::parts::number_at;
 use super::parts::span_at;
 use super::parts::span_of;
 use report::Printed;
+use report::whole::PAGE;
 
 // What an entry of a file came to, and where the next one stands.
 pub struct Judged {
@@ -15,10 +16,10 @@ pub struct Judged {
 }
 
 // Room for the longest report.
-fn page() -> [u8; 2310]
+fn page() -> [u8; PAGE]
     ensures { λ r. ⌜ mostPrinted ≡ length r ⌝ }
 {
-    [0; 2310]
+    [0; PAGE]
 }
 
 fn plan_agrees(plan: &[u8], report: &[u8]) -> bool {

@@ -7,19 +7,23 @@ ghost use Rattle.report.specs.Printed.{mostPrinted};
 use libc::STDIN_FILENO;
 use libc::STDOUT_FILENO;
 use report::Printed;
+use report::whole::PAGE;
+use sets::limits::BYTES;
+
+const ROOM: usize = BYTES + 1;
 
 // Room for the longest plan text, and for one byte more, which tells that a text is too long.
-fn text_room() -> [u8; 32769]
+fn text_room() -> [u8; ROOM]
     ensures { λ r. ⌜ mostBytes + 1 ≡ length r ⌝ }
 {
-    [0; 32769]
+    [0; ROOM]
 }
 
 // Room for the longest report.
-fn report_room() -> [u8; 2310]
+fn report_room() -> [u8; PAGE]
     ensures { λ r. ⌜ mostPrinted ≡ length r ⌝ }
 {
-    [0; 2310]
+    [0; PAGE]
 }
 
 fn main() {

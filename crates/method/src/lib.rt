@@ -1,5 +1,7 @@
 // The types of the model: what a station keeps to itself, what it does next, and the run record with the board.
 // The definitions over them are in specs/; there is no code here.
+use sets::limits::LEVELS;
+use sets::limits::STATIONS;
 
 // A posting line X: a set of stocks, and whether it has been written, since an empty set may be posted.
 pub struct Line {
@@ -9,7 +11,7 @@ pub struct Line {
 
 // A level of the board: a row of 16 registers that hold sets of stations.
 pub struct Level {
-    pub sets: [u64; 16],
+    pub sets: [u64; STATIONS],
 }
 
 // How far the reading of an array has come: the set M in hand, and how many of the array's first registers are known to be filled.
@@ -86,9 +88,9 @@ pub enum Op {
 pub struct Run {
     pub stations: u8,
     pub depth: u8,
-    pub board: [Level; 4],
-    pub lines: [Line; 16],
-    pub rows: [Row; 16],
+    pub board: [Level; LEVELS],
+    pub lines: [Line; STATIONS],
+    pub rows: [Row; STATIONS],
 }
 
 // What a turn was.

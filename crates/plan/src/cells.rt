@@ -6,9 +6,9 @@ ghost use Rattle.text.specs.Limits.{mostStocks, mostCode};
 ghost use Rattle.fields.specs.Window.{part};
 ghost use Rattle.plan.specs.Hand.{codesIn, CellAt, CellsAt};
 ghost use Rattle.text.specs.Buffers.{padded, cellsOf};
-use text::limits::CELLS;
-use text::limits::CODE;
-use text::limits::STOCKS;
+use sets::limits::CELLS;
+use sets::limits::CODE;
+use sets::limits::STOCKS;
 
 // The `len` bytes of the text from `from` on, to place `at` of the cells.
 fn put_code(text: &[u8], from: usize, len: usize, at: usize, cells: &mut [u8; CELLS])

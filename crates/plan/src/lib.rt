@@ -5,13 +5,13 @@ ghost use Rattle.text.specs.Plan.{reading};
 ghost use Rattle.text.specs.Buffers.{toldOf, setsAfter, codesAfter, lensAfter, turnsAfter};
 use cells::put_codes;
 use lines::all_lines;
+use sets::limits::BYTES;
+use sets::limits::CELLS;
+use sets::limits::STATIONS;
+use sets::limits::STOCKS;
+use sets::limits::TURNS;
 use text::Answer;
 use text::Fault;
-use text::limits::BYTES;
-use text::limits::CELLS;
-use text::limits::STATIONS;
-use text::limits::STOCKS;
-use text::limits::TURNS;
 
 // What a line's word gives: how many there are now, or what it is refused for.
 enum Counted {

@@ -16,13 +16,13 @@ use fields::reader::line_end;
 use fields::scan::same;
 use fields::scan::strays;
 use fields::words::word;
+use sets::limits::LAST_STATION;
+use sets::limits::STATIONS;
+use sets::limits::STOCKS;
+use sets::limits::TURNS;
 use text::Answer;
 use text::Fault;
 use text::Word;
-use text::limits::LAST_STATION;
-use text::limits::STATIONS;
-use text::limits::STOCKS;
-use text::limits::TURNS;
 
 // n, where the line up to `end` is `GANG` and one number from 1 to 16; else 0.
 fn gang(text: &[u8], end: usize) -> u8

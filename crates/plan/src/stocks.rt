@@ -14,10 +14,10 @@ use fields::code::key_of;
 use fields::number::number;
 use fields::reader::field_end;
 use fields::scan::same;
+use sets::limits::CODE;
+use sets::limits::STATIONS;
+use sets::limits::STOCKS;
 use text::Fault;
-use text::limits::CODE;
-use text::limits::STATIONS;
-use text::limits::STOCKS;
 
 // The set with stock k.
 fn with_stock(set: u64, k: usize) -> u64

@@ -6,8 +6,8 @@ ghost use Rattle.plan.specs.Hand.{TurnsAt, TurnsRead};
 use super::Counted;
 use fields::number::number;
 use fields::reader::field_end;
+use sets::limits::TURNS;
 use text::Fault;
-use text::limits::TURNS;
 
 // The fields from `at` to the line's end, each put at the end of the turns.
 fn turns_from(

@@ -4,11 +4,11 @@ ghost use Rattle.text.specs.Plan.{reading};
 ghost use Rattle.text.specs.Buffers.{toldOf, setsAfter, codesAfter, lensAfter, turnsAfter};
 ghost use Rattle.plancall.specs.Call.{returned, written};
 use plan::read_plan;
+use sets::limits::CELLS;
+use sets::limits::STATIONS;
+use sets::limits::STOCKS;
+use sets::limits::TURNS;
 use text::Answer;
-use text::limits::CELLS;
-use text::limits::STATIONS;
-use text::limits::STOCKS;
-use text::limits::TURNS;
 use text::number_of;
 
 // 0 for a plan that is taken, with n and the counts of stocks and turns in `told`; or the refusal's number, with its place there.

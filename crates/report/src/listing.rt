@@ -8,6 +8,8 @@ ghost use Rattle.report.specs.Put.{Put, Celled, codesFrom, countsIn};
 use super::lines::put_station;
 use super::lines::put_stock;
 use method::Row;
+use sets::limits::CODE;
+use sets::limits::STATIONS;
 
 fn wide(count: u16) -> usize
     ensures { λ r. ⌜ (r ≡ count) × (r < 65536) ⌝ }
@@ -16,7 +18,7 @@ fn wide(count: u16) -> usize
 }
 
 // The counts of the first n stations, added up.
-pub fn counted(n: usize, rows: [Row; 16]) -> usize
+pub fn counted(n: usize, rows: [Row; STATIONS]) -> usize
     requires { ⌜ n ≤ mostStations ⌝ }
     ensures { λ r. ⌜ r ≡ countsIn rows n ⌝ }
 {
@@ -39,7 +41,7 @@ pub fn put_stocks(page: &mut [u8], at: usize, count: usize, cells: &[u8], lens: 
     let mut next = at;
     let mut k = 0;
     while k < count {
-        let start = k * 12;
+        let start = k * CODE;
         let end = start + lens[k];
         next = put_stock(page, next, k as u16, &cells[start..end]);
         k += 1;
@@ -48,7 +50,7 @@ pub fn put_stocks(page: &mut [u8], at: usize, count: usize, cells: &[u8], lens: 
 }
 
 // A line for each of the first n stations.
-pub fn put_stations(page: &mut [u8], at: usize, n: usize, rows: [Row; 16]) -> usize
+pub fn put_stations(page: &mut [u8], at: usize, n: usize, rows: [Row; STATIONS]) -> usize
     requires { ⌜ (n ≤ mostStations) × (at + n * mostStation ≤ length (now page)) ⌝ }
     ensures { λ r. ⌜ Put (now (page .entry)) at (numbered stationLine 1 (take n rows)) (now (page .exit)) r ⌝ }
 {

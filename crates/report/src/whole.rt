@@ -10,13 +10,20 @@ use super::lines::put_run;
 use super::listing::counted;
 use super::listing::put_stations;
 use super::listing::put_stocks;
+use sets::limits::CELLS;
+use sets::limits::STATIONS;
+use sets::limits::STOCKS;
+use sets::limits::TURNS;
 use text::Answer;
+
+// Room for the longest report.
+pub const PAGE: usize = 2310;
 
 // The report of a plan that was read: it is run, and the lines are put into the page.
 fn put_report(
     page: &mut [u8],
     n: u8,
-    sets: [u64; 16],
+    sets: [u64; STATIONS],
     stocks: usize,
     cells: &[u8],
     lens: &[usize],
@@ -40,10 +47,10 @@ fn put_printed(text: &[u8], page: &mut [u8]) -> usize
     requires { ⌜ length (now page) ≡ mostPrinted ⌝ }
     ensures { λ r. ⌜ Put (now (page .entry)) 0 (printed (now (text .entry))) (now (page .exit)) r ⌝ }
 {
-    let mut sets = [0u64; 16];
-    let mut cells = [0u8; 768];
-    let mut lens = [0usize; 64];
-    let mut turns = [0u8; 4096];
+    let mut sets = [0u64; STATIONS];
+    let mut cells = [0u8; CELLS];
+    let mut lens = [0usize; STOCKS];
+    let mut turns = [0u8; TURNS];
     let answer = plan::read_plan(text, &mut sets, &mut cells, &mut lens, &mut turns);
     match answer {
         Answer::Plan {
@@ -74,7 +81,7 @@ pub fn print_plan(text: &[u8], out: &mut [u8]) -> Printed
     ensures { λ r. ⌜ r ≡ answerOf (printed (now (text .entry))) (length (now (out .entry))) ⌝ }
     ensures { λ r. ⌜ now (out .exit) ≡ bufferOf (printed (now (text .entry))) (now (out .entry)) ⌝ }
 {
-    let mut page = [0u8; 2310];
+    let mut page = [0u8; PAGE];
     let end = put_printed(text, &mut page);
     hand_out(&page[..end], out)
 }

@@ -4,6 +4,11 @@ ghost use mathlib.Core.Bool.{_&&_};
 ghost use lib.Dec.{leb};
 ghost use Rattle.run.specs.Call.{firstBad, tests};
 use super::verdict::Verdict;
+use sets::limits::STATIONS;
+use sets::limits::TURNS;
+
+// n is 64 bits wide.
+const MOST: u64 = STATIONS as u64;
 
 // Whether it is the number of one of n stations.
 fn is_station(n: u64, number: u64) -> bool
@@ -37,13 +42,13 @@ pub fn tested(n: u64, input_bytes: usize, turns: &[u8], answer_size: usize) -> V
     if n == 0 {
         return Verdict::NoStations;
     }
-    if 16 < n {
+    if MOST < n {
         return Verdict::NoStations;
     }
     if input_bytes as u64 != 8 * n {
         return Verdict::WrongInputs;
     }
-    if 4096 < turns.len() {
+    if TURNS < turns.len() {
         return Verdict::TooManyTurns;
     }
     let bad = first_bad(n, turns);

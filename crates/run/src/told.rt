@@ -9,6 +9,7 @@ ghost use Rattle.run.specs.Answer.{rowBytes, answerBytes};
 use super::shown;
 use super::words;
 use method::Row;
+use sets::limits::STATIONS;
 
 // Puts a state, a zero byte and a count from `at` on.
 fn put_head(dst: &mut [u8], at: usize, state: u8, count: u16)
@@ -33,7 +34,7 @@ fn put_row(dst: &mut [u8], at: usize, row: Row)
 }
 
 // Puts the first n rows, one after the other.
-pub fn put_rows(dst: &mut [u8], n: usize, rows: [Row; 16])
+pub fn put_rows(dst: &mut [u8], n: usize, rows: [Row; STATIONS])
     requires { ⌜ (n ≤ 16) × (20 * n ≤ length (now dst)) ⌝ }
     ensures { λ r. ⌜ now (dst .exit) ≡ answerBytes n rows ++ drop (20 * n) (now (dst .entry)) ⌝ }
 {

@@ -4,6 +4,7 @@ ghost use Prim.Native.Nat.{_+_, _*_, _≤_, _<_};
 ghost use lib.ListN.{length, take, drop};
 ghost use lib.Seq.{sets};
 ghost use Rattle.run.specs.Bytes.{bytesOf, numberIn, inputsIn};
+use sets::limits::STATIONS;
 
 fn wide(b: u8) -> u64
     ensures { λ r. ⌜ (r ≡ b) × (r < 256) ⌝ }
@@ -26,11 +27,11 @@ pub fn word_at(bytes: &[u8], at: usize) -> u64
 }
 
 // The inputs of n stations, and nothing for the others.
-pub fn inputs_of(n: usize, bytes: &[u8]) -> [u64; 16]
+pub fn inputs_of(n: usize, bytes: &[u8]) -> [u64; STATIONS]
     requires { ⌜ (n ≤ 16) × (length (now bytes) ≡ 8 * n) ⌝ }
     ensures { λ r. ⌜ r ≡ inputsIn 16 (now (bytes .entry)) ⌝ }
 {
-    let mut inputs = [0u64; 16];
+    let mut inputs = [0u64; STATIONS];
     let mut i = 0;
     while i < n {
         inputs[i] = word_at(bytes, 8 * i);

@@ -44,8 +44,6 @@ pub enum Word {
     Other,
 }
 
-pub mod limits;
-
 // The number of a refusal in document 01's table.
 pub fn number_of(fault: Fault) -> u8
     ensures { λ r. ⌜ r ≡ numberOf fault ⌝ }

@@ -6,12 +6,21 @@ ghost use Rattle.turns.specs.Places.{seatAt, nowhere, registerAim, aimOf
 use method::Op;
 use method::Row;
 use method::State;
+use sets::limits::LEVELS;
+use sets::limits::STATIONS;
+
+// The last index of a row, a line or a register, and the first that is past them and past the levels.
+const LAST_SEAT: usize = STATIONS - 1;
+
+const SEATS_END: u64 = STATIONS as u64;
+
+const LEVELS_END: u64 = LEVELS as u64;
 
 // The index of station i's row. A number that is no station has the index of some row.
 pub fn seat_of(i: u8) -> usize
     ensures { λ r. ⌜ r ≡ seatAt i ⌝ }
 {
-    (i as usize + 15) % 16
+    (i as usize + LAST_SEAT) % STATIONS
 }
 
 // The index of what is counted from 1.
@@ -47,11 +56,11 @@ fn at_register(op: Op, k: u8, c: u32, j: u32) -> Aim
     ensures { λ r. ⌜ r ≡ registerAim op k c j ⌝ }
 {
     let level = index_of(k as u64);
-    if 4 <= level {
+    if LEVELS_END <= level {
         return off_record(op);
     }
     let register = index_of(sets::arrays::place_of(k, c, j));
-    if 16 <= register {
+    if SEATS_END <= register {
         return off_record(op);
     }
     Aim {
@@ -103,7 +112,7 @@ fn line_of(j: u8) -> Spot
     ensures { λ r. ⌜ r ≡ lineSpot j ⌝ }
 {
     let line = index_of(j as u64);
-    if 16 <= line {
+    if SEATS_END <= line {
         return no_line();
     }
     Spot {

@@ -1,8 +1,10 @@
 // A station's row: where its next operation goes, and whether a turn may be made for it.
 ghost use mathlib.Core.Path.{_≡_};
 ghost use Rattle.turns.specs.Moves.{mayTurn, isUniting};
+use super::counts;
 use method::Row;
 use method::State;
+use sets::limits::LAST_STATION;
 
 // Whether the row's station is at a union, so that its next operation is on a register.
 pub fn is_uniting(row: Row) -> bool
@@ -27,8 +29,8 @@ pub fn may_turn(n: u8, i: u8, row: Row) -> bool
     if n < i {
         return false;
     }
-    if 16 < i {
+    if LAST_STATION < i {
         return false;
     }
-    row.count < 65535
+    row.count < counts::END
 }
