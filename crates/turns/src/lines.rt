@@ -40,7 +40,8 @@ fn posted(depth: u8, i: u8, count: u16, stocks: u64) -> Lined
     }
 }
 
-// The line of a station in S is read; or it cannot be, and nothing changes.
+// The line of a station in S is read; or it cannot be, and nothing changes. Row and line are made anew from their fields either way, so that
+// the room between the fields is not carried along.
 fn gathered(count: u16, set: u64, j: u8, got: u64, on: bool, line: Line) -> Lined
     ensures { λ r. ⌜ r ≡ gatheredOf count set j got on line ⌝ }
 {

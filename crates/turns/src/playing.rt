@@ -15,6 +15,7 @@ pub struct Played {
     pub at: usize,
 }
 
+// Whether the turn would have read a line never written.
 fn is_unwritten(did: Did) -> bool
     ensures { λ r. ⌜ r ≡ isUnwritten did ⌝ }
 {
