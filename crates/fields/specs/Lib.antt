@@ -1,3 +1,2 @@
--- The window on the text, and the key of a code.
+-- The window on the text.
 pub mod Window
-pub mod Key

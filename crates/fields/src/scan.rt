@@ -1,10 +1,9 @@
-// Scans over a slice from a place on, and looks at it.
+// Scans over a slice from a place on.
 ghost use mathlib.Core.Path.{_≡_};
 ghost use Prim.Native.Nat.{_+_};
 ghost use lib.ListN.{drop};
 ghost use Rattle.text.specs.Text as Text;
 ghost use Rattle.text.specs.Text.{run};
-ghost use Rattle.fields.specs.Window as Window;
 ghost use Rattle.fields.specs.Window.{noTab};
 
 // Whether a line may hold the byte. Most are no tab and no control, so the lower bound is looked at first.
@@ -44,32 +43,4 @@ pub(super) fn field_end(line: &[u8], at: usize) -> usize
         i += 1;
     }
     i
-}
-
-// Whether two slices hold the same bytes.
-pub fn same(a: &[u8], b: &[u8]) -> bool
-    ensures { λ r. ⌜ r ≡ Text.same (now (a .entry)) (now (b .entry)) ⌝ }
-{
-    if a.len() != b.len() {
-        return false;
-    }
-    let mut i = 0;
-    while i < a.len() {
-        if a[i] != b[i] {
-            return false;
-        }
-        i += 1;
-    }
-    true
-}
-
-// Whether the byte at `end` is there and ends no line.
-pub fn strays(text: &[u8], end: usize) -> bool
-    ensures { λ r. ⌜ r ≡ Window.strays (now (text .entry)) end ⌝ }
-{
-    if end < text.len() {
-        text[end] != b'\n'
-    } else {
-        false
-    }
 }

@@ -1,4 +1,5 @@
 -- Laws that belong to no one function.
+pub mod Keys
 pub mod Windows
 pub mod Fields
 pub mod Turned

@@ -15,7 +15,7 @@ use Rattle.text.specs.Text.{same}
 use Rattle.text.specs.Code.{stockOf}
 use Rattle.text.specs.Plan.{taken, no, holding, withStock, stockAt, addStock}
 use Rattle.fields.specs.Window.{part}
-use Rattle.fields.specs.Key.{keyOn}
+use Rattle.plan.specs.Key.{keyOn}
 use Rattle.plan.specs.Hand.{codeAt, codesIn, Entry, Table, Listed, CodedRead}
 use Rattle.plan.specs.declared.Coded.the-variants.{Stocks, Refused}
 use Rattle.text.specs.declared.Fault.the-variants.{MoreStocks}

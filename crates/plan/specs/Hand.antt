@@ -5,7 +5,7 @@ use mathlib.Core.List.{List, [], _∷_, _++_}
 use lib.ListN.{length, getD, take, replicate}
 use Rattle.text.specs.Limits.{mostStations, mostStocks, mostTurns, mostCode}
 use Rattle.fields.specs.Window.{part}
-use Rattle.fields.specs.Key.{keyOn}
+use Rattle.plan.specs.Key.{keyOn}
 use Rattle.text.specs.Buffers.{padded}
 use Rattle.text.specs.Plan.{Out, taken, no, Holding, holding, Stocked, stocked, Held, held, Reading, plan, refused}
 use Rattle.text.specs.declared.Answer.{Answer}

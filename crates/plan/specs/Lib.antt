@@ -1,2 +1,3 @@
--- What the code has in hand while it reads a plan.
+-- What the code has in hand while it reads a plan, and the key of a code.
+pub mod Key
 pub mod Hand

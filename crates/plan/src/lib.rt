@@ -32,6 +32,7 @@ enum Line {
 }
 
 mod cells;
+mod compare;
 mod lines;
 mod stocks;
 mod turns;

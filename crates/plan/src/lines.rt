@@ -3,19 +3,18 @@ ghost use mathlib.Core.Path.{_≡_};
 ghost use Prim.Native.Nat.{_≤_};
 ghost use lib.ListN.{length, drop};
 ghost use Rattle.text.specs.Text.{linesOf};
-ghost use Rattle.text.specs.Plan.{gangOf, laterFields, laterLines, allLines};
+ghost use Rattle.text.specs.Plan.{wordOf, gangOf, laterFields, laterLines, allLines};
 ghost use Rattle.fields.specs.Window.{fieldsFrom};
+ghost use Rattle.fields.specs.Window as Window;
 ghost use Rattle.plan.specs.Hand.{hand, heldOf, PlanIn, LineAt, LineRead, PlanRead, Clear};
 use super::Counted;
 use super::Line;
+use super::compare::same;
 use super::stocks::has_line;
 use super::turns::turn_line;
 use fields::number::number;
 use fields::reader::field_end;
 use fields::reader::line_end;
-use fields::scan::same;
-use fields::scan::strays;
-use fields::words::word;
 use sets::limits::LAST_STATION;
 use sets::limits::STATIONS;
 use sets::limits::STOCKS;
@@ -23,6 +22,30 @@ use sets::limits::TURNS;
 use text::Answer;
 use text::Fault;
 use text::Word;
+
+// Whether the byte at `end` is there and ends no line.
+fn strays(text: &[u8], end: usize) -> bool
+    ensures { λ r. ⌜ r ≡ Window.strays (now (text .entry)) end ⌝ }
+{
+    if end < text.len() {
+        text[end] != b'\n'
+    } else {
+        false
+    }
+}
+
+// The first field of a later line.
+fn word(field: &[u8]) -> Word
+    ensures { λ r. ⌜ r ≡ wordOf (now (field .entry)) ⌝ }
+{
+    if same(field, b"HAS") {
+        return Word::Has;
+    }
+    if same(field, b"TURN") {
+        return Word::Turn;
+    }
+    Word::Other
+}
 
 // n, where the line up to `end` is `GANG` and one number from 1 to 16; else 0.
 fn gang(text: &[u8], end: usize) -> u8

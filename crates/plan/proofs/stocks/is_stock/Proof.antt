@@ -3,7 +3,7 @@
 use mathlib.Core.Path.{sym, ap, _∙_}
 use borrow.Author.Needs.{needs}
 use Rattle.text.proofs.Runs.{same-not}
-use Rattle.fields.specs.Key.{keyOn}
+use Rattle.plan.specs.Key.{keyOn}
 use Rattle.plan.proofs.stocks.is_stock.Statement.{statement}
 use Rattle.plan.proofs.stocks.is_stock.Tie as tie
 

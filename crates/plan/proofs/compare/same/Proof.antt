@@ -1,4 +1,4 @@
--- `fields::scan::same` meets its contract. Invariant: the two are the same just where what is left of them is.
+-- `plan::compare::same` meets its contract. Invariant: the two are the same just where what is left of them is.
 -- Assumes nothing.
 use Prim.Native.Nat.{_-_, _≤_}
 use mathlib.Core.Path.{_≡_, refl, sym, _∙_}
@@ -7,8 +7,8 @@ use borrow.Author.Needs.{needs}
 use lib.ListN.{length, drop}
 use Rattle.text.specs.Text.{same}
 use Rattle.text.proofs.Runs.{same-length, same-on, same-stops, same-ends}
-use Rattle.fields.proofs.scan.same.Statement.{statement}
-use Rattle.fields.proofs.scan.same.Tie as tie
+use Rattle.plan.proofs.compare.same.Statement.{statement}
+use Rattle.plan.proofs.compare.same.Tie as tie
 
 abbrev Inv-loop : tie.InvT-loop
 Inv-loop a b i₀ i = (i ≤ length a) × (length a ≡ length b) × (same a b ≡ same (drop i a) (drop i b))

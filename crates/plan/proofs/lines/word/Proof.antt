@@ -1,12 +1,12 @@
--- `fields::words::word` meets its contract.
+-- `plan::lines::word` meets its contract.
 -- Assumes nothing.
 use mathlib.Core.Path.{_≡_, sym, _∙_}
 use borrow.Author.Needs.{needs}
 use mathlib.Core.Bool.{true, false}
 use Rattle.text.specs.Text.{same}
 use Rattle.text.specs.Plan.{HAS, TURN, wordOf}
-use Rattle.fields.proofs.words.word.Statement.{statement}
-use Rattle.fields.proofs.words.word.Tie as tie
+use Rattle.plan.proofs.lines.word.Statement.{statement}
+use Rattle.plan.proofs.lines.word.Tie as tie
 
 slice-aggregate-same : tie.Need-slice-aggregate-same
 slice-aggregate-same c = search needs

@@ -1,4 +1,4 @@
--- `fields::code::key_of` meets its contract. Invariant: the key of the whole is the key so far with what is left.
+-- `plan::compare::key_of` meets its contract. Invariant: the key of the whole is the key so far with what is left.
 -- Assumes nothing.
 use Prim.Native.Nat.{_-_}
 use mathlib.Core.Path.{_≡_, refl, sym, _∙_}
@@ -6,10 +6,10 @@ use native.Mathlib.Omega.{arith}
 use borrow.Author.Needs.{needs}
 use native.Mathlib.Numerals.{add-one}
 use lib.ListN.{length, drop}
-use Rattle.fields.specs.Key.{keyOn}
-use Rattle.fields.proofs.Keys.{key-on, key-ends}
-use Rattle.fields.proofs.code.key_of.Statement.{statement}
-use Rattle.fields.proofs.code.key_of.Tie as tie
+use Rattle.plan.specs.Key.{keyOn}
+use Rattle.plan.proofs.Keys.{key-on, key-ends}
+use Rattle.plan.proofs.compare.key_of.Statement.{statement}
+use Rattle.plan.proofs.compare.key_of.Tie as tie
 
 abbrev Inv-loop : tie.InvT-loop
 Inv-loop code key₀ i₀ key i = keyOn 0 code ≡ keyOn key (drop i code)

@@ -4,7 +4,7 @@ use mathlib.Core.Path.{_≡_, ap}
 use mathlib.Core.List.{List}
 use lib.ListN.{length, getD, drop, drop-of-length-le}
 use lib.Seq.{drop-cons}
-use Rattle.fields.specs.Key.{keyOn}
+use Rattle.plan.specs.Key.{keyOn}
 
 -- a byte more goes into the key
 pub key-on : (k : ℕ) (l : List ℕ) (i : ℕ) → i < length l → keyOn k (drop i l) ≡ keyOn (k % 2 ^ 56 * 256 + getD l i 0) (drop (suc i) l)

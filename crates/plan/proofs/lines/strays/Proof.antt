@@ -1,10 +1,10 @@
--- `fields::scan::strays` meets its contract.
+-- `plan::lines::strays` meets its contract.
 -- Assumes nothing.
 use borrow.Author.Needs.{needs}
 use lib.ListN.{length}
 use borrow.Author.Tests.{lt-ltb, le-ltb}
-use Rattle.fields.proofs.scan.strays.Statement.{statement}
-use Rattle.fields.proofs.scan.strays.Tie as tie
+use Rattle.plan.proofs.lines.strays.Statement.{statement}
+use Rattle.plan.proofs.lines.strays.Tie as tie
 
 shared-slice-read-result : tie.Need-shared-slice-read-result
 shared-slice-read-result c = search needs
