@@ -16,7 +16,7 @@ mod registers;
 mod lines;
 
 // One turn.
-pub mod turning;
+mod turning;
 
 // An order of turns.
 pub mod playing;

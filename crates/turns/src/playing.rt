@@ -41,7 +41,7 @@ fn is_settled(row: Row) -> bool
 }
 
 // Every turn of the order, one after the other, in place, and how many were made.
-pub fn play(run: &mut Run, turns: &[u8]) -> usize
+fn play(run: &mut Run, turns: &[u8]) -> usize
     ensures { λ r. ⌜ (now (run .exit) ≡ stepped (now (run .entry)) (now (turns .entry)) (stopsAt (now (run .entry)) (now (turns .entry))))
         × (r ≡ stopsAt (now (run .entry)) (now (turns .entry))) ⌝ }
 {
