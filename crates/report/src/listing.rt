@@ -11,6 +11,7 @@ use method::Row;
 use sets::limits::CODE;
 use sets::limits::STATIONS;
 
+// A count as a wider number, which is still of two bytes.
 fn wide(count: u16) -> usize
     ensures { λ r. ⌜ (r ≡ count) × (r < 65536) ⌝ }
 {

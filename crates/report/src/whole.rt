@@ -34,8 +34,7 @@ fn put_report(
 {
     let stations = n as usize;
     let played = turns::playing::play_out(board::start::fresh(n, sets), turns);
-    let run = played.run;
-    let rows = run.rows;
+    let rows = played.run.rows;
     let idle = turns.len() - counted(stations, rows);
     let a = put_run(page, n as u16, turns.len() as u16, idle as u16);
     let b = put_stocks(page, a, stocks, cells, lens);

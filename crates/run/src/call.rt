@@ -21,8 +21,7 @@ fn carried_out(n: u64, inputs: &[u8], turns: &[u8], answer: &mut [u8]) -> Verdic
     if at < turns.len() {
         return Verdict::UnwrittenLine { at: at as u16 };
     }
-    let run = out.run;
-    let rows = run.rows;
+    let rows = out.run.rows;
     told::put_rows(answer, stations, rows);
     Verdict::Accepted
 }

@@ -4,6 +4,7 @@ ghost use mathlib.Core.List.{_∷_, _++_};
 ghost use Prim.Native.Nat.{_+_, _*_, _≤_};
 ghost use lib.ListN.{length, drop};
 ghost use lib.Seq.{sets};
+ghost use Rattle.sets.specs.Limits.{mostStations};
 ghost use Rattle.run.specs.Bytes.{bytesOf};
 ghost use Rattle.run.specs.Answer.{rowBytes, answerBytes};
 use super::shown;
@@ -35,7 +36,7 @@ fn put_row(dst: &mut [u8], at: usize, row: Row)
 
 // Puts the first n rows, one after the other.
 pub fn put_rows(dst: &mut [u8], n: usize, rows: [Row; STATIONS])
-    requires { ⌜ (n ≤ 16) × (20 * n ≤ length (now dst)) ⌝ }
+    requires { ⌜ (n ≤ mostStations) × (20 * n ≤ length (now dst)) ⌝ }
     ensures { λ r. ⌜ now (dst .exit) ≡ answerBytes n rows ++ drop (20 * n) (now (dst .entry)) ⌝ }
 {
     let mut i = 0;

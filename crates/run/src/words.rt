@@ -3,9 +3,11 @@ ghost use mathlib.Core.Path.{_≡_};
 ghost use Prim.Native.Nat.{_+_, _*_, _≤_, _<_};
 ghost use lib.ListN.{length, take, drop};
 ghost use lib.Seq.{sets};
+ghost use Rattle.sets.specs.Limits.{mostStations};
 ghost use Rattle.run.specs.Bytes.{bytesOf, numberIn, inputsIn};
 use sets::limits::STATIONS;
 
+// A byte as a wider number, which is still below 256.
 fn wide(b: u8) -> u64
     ensures { λ r. ⌜ (r ≡ b) × (r < 256) ⌝ }
 {
@@ -28,8 +30,8 @@ pub fn word_at(bytes: &[u8], at: usize) -> u64
 
 // The inputs of n stations, and nothing for the others.
 pub fn inputs_of(n: usize, bytes: &[u8]) -> [u64; STATIONS]
-    requires { ⌜ (n ≤ 16) × (length (now bytes) ≡ 8 * n) ⌝ }
-    ensures { λ r. ⌜ r ≡ inputsIn 16 (now (bytes .entry)) ⌝ }
+    requires { ⌜ (n ≤ mostStations) × (length (now bytes) ≡ 8 * n) ⌝ }
+    ensures { λ r. ⌜ r ≡ inputsIn mostStations (now (bytes .entry)) ⌝ }
 {
     let mut inputs = [0u64; STATIONS];
     let mut i = 0;

@@ -16,9 +16,9 @@ counted-requires c κs = search needs
 
 sub-idle : tie.Need-sub-idle
 sub-idle c =
-    let a = c .before .before .before .before .before .before .before .before .before .args in
-    let p = c .before .before .before .before .before .before .before .before .before .pre in
-    let e = counts-and-idle (a .n) (a .sets) (a .turns .now) (p .high) (p .sets-long) (p .few) (p .named) (c .before .before .before .before .fresh .result) (c .before .before .before .play-out .result) (c .counted .result) (c .before .before .before .before .fresh .ensures) (c .before .before .before .play-out .ensures) (c .counted .ensures) in
+    let a = c .before .before .before .before .before .before .before .before .args in
+    let p = c .before .before .before .before .before .before .before .before .pre in
+    let e = counts-and-idle (a .n) (a .sets) (a .turns .now) (p .high) (p .sets-long) (p .few) (p .named) (c .before .before .before .fresh .result) (c .before .before .play-out .result) (c .counted .result) (c .before .before .before .fresh .ensures) (c .before .before .play-out .ensures) (c .counted .ensures) in
     omega arith
 
 cast-put-run : tie.Need-cast-put-run
@@ -41,10 +41,10 @@ same-length c = search needs
 
 returns : tie.Need-returns
 returns c =
-    let a = c .before .before .before .before .before .before .before .before .before .before .before .before .before .before .before .before .before .before .before .before .before .args in
-    let p = c .before .before .before .before .before .before .before .before .before .before .before .before .before .before .before .before .before .before .before .before .before .pre in
-    report-put (a .n) (a .sets) (a .turns .now) (p .high) (p .sets-long) (p .few) (p .named) _ _ _ _ _ _ _ (c .before .before .before .before .before .before .before .before .before .before .before .before .counted .result) (codesFrom (a .cells .now) (a .lens .now) 0 (a .stocks)) (c .before .before .before .before .before .before .before .before .before .before .before .before .before .before .before .before .fresh .result) (c .before .before .before .before .before .before .before .before .before .before .before .before .before .before .before .play-out .result)
-    (c .before .before .before .before .before .before .before .before .before .before .before .before .before .before .before .before .fresh .ensures) (c .before .before .before .before .before .before .before .before .before .before .before .before .before .before .before .play-out .ensures) (c .before .before .before .before .before .before .before .before .before .before .before .before .counted .ensures) (c .before .before .before .before .before .before .before .before .before .before .put-run .ensures .0) (c .before .before .before .before .before .before .put-stocks .ensures .0) (c .before .before .put-stations .ensures)
+    let a = c .before .before .before .before .before .before .before .before .before .before .before .before .before .before .before .before .before .before .before .before .args in
+    let p = c .before .before .before .before .before .before .before .before .before .before .before .before .before .before .before .before .before .before .before .before .pre in
+    report-put (a .n) (a .sets) (a .turns .now) (p .high) (p .sets-long) (p .few) (p .named) _ _ _ _ _ _ _ (c .before .before .before .before .before .before .before .before .before .before .before .before .counted .result) (codesFrom (a .cells .now) (a .lens .now) 0 (a .stocks)) (c .before .before .before .before .before .before .before .before .before .before .before .before .before .before .before .fresh .result) (c .before .before .before .before .before .before .before .before .before .before .before .before .before .before .play-out .result)
+    (c .before .before .before .before .before .before .before .before .before .before .before .before .before .before .before .fresh .ensures) (c .before .before .before .before .before .before .before .before .before .before .before .before .before .before .play-out .ensures) (c .before .before .before .before .before .before .before .before .before .before .before .before .counted .ensures) (c .before .before .before .before .before .before .before .before .before .before .put-run .ensures .0) (c .before .before .before .before .before .before .put-stocks .ensures .0) (c .before .before .put-stations .ensures)
 
 pub put-report-spec : {M : Type 1} → statement M
 put-report-spec =

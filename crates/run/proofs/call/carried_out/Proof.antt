@@ -17,8 +17,8 @@ fresh-requires c κs = search needs
 play-out-requires : tie.Need-play-out-requires
 play-out-requires c κs = search needs
 
-cast-t15 : tie.Need-cast-t15
-cast-t15 c = let t = taken _ _ _ _ (c .before .before .before .before .before .before .before .pre) in omega (arith, t .few, c .if1 .taken)
+cast-t14 : tie.Need-cast-t14
+cast-t14 c = let t = taken _ _ _ _ (c .before .before .before .before .before .before .before .pre) in omega (arith, t .few, c .if1 .taken)
 
 returns : tie.Need-returns
 returns c =
@@ -26,15 +26,15 @@ returns c =
     (played-begun _ _ _ _ _ _ (c .before .before .before .inputs-of .ensures) (c .before .before .fresh .ensures) (c .before .play-out .ensures)) (c .if1 .taken)
 
 put-rows-requires : tie.Need-put-rows-requires
-put-rows-requires c κs = let t = taken _ _ _ _ (c .before .before .before .before .before .before .before .before .before .before .pre) in (omega (arith, t .high), omega (arith, t .wide))
+put-rows-requires c κs = let t = taken _ _ _ _ (c .before .before .before .before .before .before .before .before .before .pre) in (omega (arith, t .high), omega (arith, t .wide))
 
 same-length : tie.Need-same-length
 same-length c = search needs
 
 returns-2 : tie.Need-returns-2
 returns-2 c =
-    called-done _ _ _ _ (c .before .before .before .before .before .before .before .before .before .before .before .before .before .pre) (c .before .before .before .before .before .before .before .play-out .result) _
-    (played-begun _ _ _ _ _ _ (c .before .before .before .before .before .before .before .before .before .inputs-of .ensures) (c .before .before .before .before .before .before .before .before .fresh .ensures) (c .before .before .before .before .before .before .before .play-out .ensures)) (c .before .before .before .before .before .before .if1 .left) (c .before .before .put-rows .ensures)
+    called-done _ _ _ _ (c .before .before .before .before .before .before .before .before .before .before .before .before .pre) (c .before .before .before .before .before .before .play-out .result) _
+    (played-begun _ _ _ _ _ _ (c .before .before .before .before .before .before .before .before .inputs-of .ensures) (c .before .before .before .before .before .before .before .fresh .ensures) (c .before .before .before .before .before .before .play-out .ensures)) (c .before .before .before .before .before .if1 .left) (c .before .before .put-rows .ensures)
 
 pub carried-out-spec : {M : Type 1} → statement M
 carried-out-spec =
@@ -44,7 +44,7 @@ carried-out-spec =
     inputs-of-requires
     fresh-requires
     play-out-requires
-    cast-t15
+    cast-t14
     returns
     put-rows-requires
     same-length
