@@ -1,14 +1,14 @@
 -- A station's steps by their ways out: which way a definition goes under the tests that lead there. What a callee gave is a variable
 -- with its equation.
-use Prim.Native.Nat.{ℕ, zero, suc, _+_, _^_, _≤_, _<_, min}
+use Prim.Native.Nat.{ℕ, _+_, _^_, _≤_, _<_, min}
 use mathlib.Core.Path.{_≡_, refl, sym, ap, subst, _∙_}
-use mathlib.Core.Bool.{Bool, true, false, cond, _||_, _&&_, and-false}
+use mathlib.Core.Bool.{Bool, true, false, cond, _&&_, and-false}
 use native.Mathlib.Decide.{decLt}
 use native.Mathlib.Omega.{arith}
 use borrow.Author.Tests.{ltb-true, lt-ltb, le-ltb, eq-eqb, ne-eqb, le-leb, lt-leb}
 use lib.Count.{ones-le}
 use lib.Dec.{T as Holds, ltb, leb, eqb}
-use Rattle.sets.specs.Mask.{size, union, aloneIn, memberAfter}
+use Rattle.sets.specs.Mask.{size, union, aloneIn}
 use Rattle.sets.specs.Arrays.{arrayLength, ownArray, otherArray}
 use Rattle.method.specs.declared.Reading.{Reading}
 use Rattle.method.specs.declared.Side.{Side}
@@ -26,24 +26,6 @@ use Rattle.station.specs.Hand.{of, movedTo, brought, goesOn, readingOver
 -- a set in a word has at most 64 members
 pub size-word : (s : ℕ) → s < 2 ^ 64 → size s ≤ 64
 size-word s h = ones-le 64 s h
-
--- ---- gathering and climbing
-
-pub gather-over : (S i got j : ℕ) → j ≡ memberAfter S i → j ≡ 0 → Settled S got ≡ gather S i got
-unfolding gather
-gather-over S i got j e z = rw (← e, eq-eqb _ _ z)
-
-pub gather-next : (S i got j : ℕ) → j ≡ memberAfter S i → (j ≡ 0 → ⊥) → Gathering S j got ≡ gather S i got
-unfolding gather
-gather-next S i got j e z = rw (← e, ne-eqb _ _ z)
-
-pub climb-on : (N k S : ℕ) → k < N → Uniting (k + 1) (reading S 0) (reading 0 0) Own First ≡ climb N k S
-unfolding climb
-climb-on N k S h = rw (lt-ltb _ _ h)
-
-pub climb-over : (N k S : ℕ) (s : State) → N ≤ k → s ≡ gather S 0 0 → s ≡ climb N k S
-unfolding climb
-climb-over N k S s h e = rw (le-ltb _ _ h) e
 
 -- ---- a reading
 

@@ -7,9 +7,6 @@ ghost use Rattle.method.specs.Steps.{nextOp, absorb};
 // Reading an array from a set M.
 mod reading;
 
-// Gathering the stocks of the stations in S, and the way from one level to the next.
-pub mod climbing;
-
 // The union over two arrays.
 mod uniting;
 

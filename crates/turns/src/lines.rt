@@ -29,7 +29,7 @@ fn posted(depth: u8, i: u8, count: u16, stocks: u64) -> Lined
 {
     Lined {
         row: Row {
-            state: station::climbing::climbed(depth, 0, sets::mask::alone(i)),
+            state: climbing::climbed(depth, 0, sets::mask::alone(i)),
             count: counts::one_more(count),
         },
         line: Line {
@@ -48,7 +48,7 @@ fn gathered(count: u16, set: u64, j: u8, got: u64, on: bool, line: Line) -> Line
     if readable(on, line) {
         return Lined {
             row: Row {
-                state: station::climbing::gathered(set, j, sets::mask::union_of(got, line.stocks)),
+                state: climbing::gathered(set, j, sets::mask::union_of(got, line.stocks)),
                 count: counts::one_more(count),
             },
             line: Line {

@@ -1,7 +1,7 @@
 use borrow.Author.Needs.{needs}
-use Rattle.station.proofs.Ways.{climb-on, climb-over}
-use Rattle.station.proofs.climbing.climbed.Statement.{statement}
-use Rattle.station.proofs.climbing.climbed.Tie as tie
+use Rattle.climbing.proofs.Ways.{climb-on, climb-over}
+use Rattle.climbing.proofs.climbed.Statement.{statement}
+use Rattle.climbing.proofs.climbed.Tie as tie
 
 add-t6 : tie.Need-add-t6
 add-t6 c = search needs

@@ -1,4 +1,4 @@
-// From level to level, and then the gathering.
+// From level to level, and then the gathering: where a station stands once a level gave its set, or a line was read.
 ghost use mathlib.Core.Path.{_≡_};
 ghost use Rattle.method.specs.Steps.{gather, climb};
 use method::Reading;

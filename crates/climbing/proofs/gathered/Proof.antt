@@ -1,7 +1,7 @@
 use borrow.Author.Needs.{needs}
-use Rattle.station.proofs.Ways.{gather-over, gather-next}
-use Rattle.station.proofs.climbing.gathered.Statement.{statement}
-use Rattle.station.proofs.climbing.gathered.Tie as tie
+use Rattle.climbing.proofs.Ways.{gather-over, gather-next}
+use Rattle.climbing.proofs.gathered.Statement.{statement}
+use Rattle.climbing.proofs.gathered.Tie as tie
 
 member-after-requires : tie.Need-member-after-requires
 member-after-requires c κs = search needs
