@@ -13,10 +13,12 @@ use Rattle.method.specs.Board.{depthFrom, depth, fresh, freshOn, rowOf, lineOf,
 use Rattle.method.specs.Steps.{gather, climb, writing, pending, reach, again, roundOver, readOther, readOwn, absorbOwn, absorbOther, nextOp, absorb}
 use Rattle.method.specs.Turn.{goesOn, perform, named, turn, after}
 use Rattle.method.specs.Demand.{didOf, idleTurns, mostOperations}
-use Rattle.turns.specs.Playing.{firstFrom}
-use Rattle.run.specs.Bytes.{bytesOf, numberIn, inputsIn}
-use Rattle.run.specs.Answer.{rowBytes, answerBytes}
-use Rattle.run.specs.Call.{firstBad, tests, firstUnwritten, verdictOf, returned, answered}
+use Rattle.method.specs.First.{firstFrom}
+use Rattle.answer.specs.Bytes.{bytesOf}
+use Rattle.run.specs.Inputs.{numberIn, inputsIn}
+use Rattle.answer.specs.Answer.{rowBytes, answerBytes}
+use Rattle.verdict.specs.Refusals.{firstBad, tests}
+use Rattle.run.specs.Call.{firstUnwritten, verdictOf, returned, answered}
 use Rattle.text.specs.Text.{parted, all, run, same}
 use Rattle.text.specs.Number.{valueOn, numberTo}
 use Rattle.text.specs.Code.{codeOf}

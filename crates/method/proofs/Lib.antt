@@ -12,3 +12,4 @@ pub mod Moments
 pub mod Counts
 pub mod Agreement
 pub mod Demand3
+pub mod Firsts

@@ -1,6 +1,6 @@
 -- The board and the run record: document 01, "The board" and "Numbers". Stations, levels, arrays and registers are counted from 1.
-use Prim.Native.Nat.{ℕ, zero, suc, _+_, _-_, _^_}
-use mathlib.Core.Bool.{Bool, true, false}
+use Prim.Native.Nat.{ℕ, zero, suc, _-_, _^_}
+use mathlib.Core.Bool.{true, false}
 use mathlib.Core.List.{List, map}
 use lib.Dec.{leb}
 use lib.ListN.{getD, set, replicate}

@@ -3,3 +3,4 @@ pub mod Board
 pub mod Steps
 pub mod Turn
 pub mod Demand
+pub mod First

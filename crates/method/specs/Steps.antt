@@ -1,12 +1,11 @@
 -- A station's steps: document 01, "A station's steps". A station's row alone says its next operation, and the row with what the
 -- operation brought says the next row. `i` is the station's number and `N` the number of levels.
-use Prim.Native.Nat.{ℕ, zero, suc, _+_}
+use Prim.Native.Nat.{ℕ, _+_}
 use mathlib.Core.Bool.{Bool, true, false, cond, _||_}
 use lib.Dec.{ltb, eqb}
 use Rattle.sets.specs.Mask.{size, union, alone, memberAfter}
 use Rattle.sets.specs.Arrays.{arrayLength, ownArray, otherArray}
 use Rattle.method.specs.declared.Reading.{Reading}
-use Rattle.method.specs.declared.Side.{Side}
 use Rattle.method.specs.declared.Side.the-variants.{Own, Other}
 use Rattle.method.specs.declared.Round.{Round}
 use Rattle.method.specs.declared.Round.the-variants.{First, Unchanged, Changed}

@@ -5,7 +5,6 @@ use mathlib.Core.List.{List}
 use lib.Dec.{leb}
 use lib.ListN.{length, getD}
 use Rattle.method.specs.declared.Line.{Line}
-use Rattle.method.specs.declared.Row.{Row}
 use Rattle.method.specs.declared.Op.{Op}
 use Rattle.method.specs.declared.Op.the-variants.{Post, Write, Read, ReadLine, Rest}
 use Rattle.method.specs.declared.Run.{Run}

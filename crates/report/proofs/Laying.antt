@@ -6,7 +6,7 @@ use native.Mathlib.Numerals.{add-one}
 use native.Mathlib.Omega.{arith}
 use lib.ListN.{length, getD, take, set, length-append}
 use lib.Seq.{sets, set-comm, take-suc, length-take-le, take-length}
-use Rattle.run.proofs.Laid.{sets-append}
+use Rattle.answer.proofs.Laid.{sets-append}
 use Rattle.report.specs.Put.{Put}
 
 -- a byte in front of those that stand already

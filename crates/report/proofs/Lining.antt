@@ -7,8 +7,8 @@ use Rattle.method.specs.declared.State.{State}
 use Rattle.method.specs.declared.State.the-variants.{NotBegun, Uniting, Gathering, Settled}
 use Rattle.method.specs.declared.Row.{Row}
 use Rattle.method.specs.Demand.{isSettled}
-use Rattle.run.specs.declared.shown.Shown.{Shown}
-use Rattle.run.specs.Answer.{shownOf}
+use Rattle.answer.specs.declared.shown.Shown.{Shown}
+use Rattle.answer.specs.Answer.{shownOf}
 use Rattle.text.specs.Text.{LF, tab}
 use Rattle.report.specs.Digits.{decimal}
 use Rattle.report.specs.Lines.{RUN, STOCK, ST, NO, line, refusalLine, runLine, stockLine, setShown, stationLine}

@@ -1,11 +1,10 @@
 -- The run of a plan that was taken: every turn is made, and counts and idle turns add up.
-use Prim.Native.Nat.{ℕ, zero, suc, _+_, _-_, _≤_, _<_}
+use Prim.Native.Nat.{ℕ, _+_, _-_, _≤_, _<_}
 use mathlib.Core.Path.{_≡_, refl, ap, _∙_}
-use mathlib.Core.Bool.{Bool, false}
+use mathlib.Core.Bool.{false}
 use mathlib.Core.List.{List, _++_}
 use native.Mathlib.Nat.{le-refl}
 use native.Mathlib.Omega.{arith}
-use borrow.Author.Tests.{le-leb}
 use lib.ListN.{length, getD, take}
 use Rattle.method.specs.declared.Did.{Did}
 use Rattle.method.specs.declared.Did.the-variants.{Operation, Idle, Unwritten, Nobody}
@@ -15,8 +14,12 @@ use Rattle.method.specs.Turn.{turn, after}
 use Rattle.method.specs.Demand.{Fits, Station, didOf, idleTurns, countsOf}
 use Rattle.method.proofs.Demand3.{fits-board, counts-add-up, never-unwritten}
 use Rattle.turns.specs.declared.playing.Played.{Played}
-use Rattle.turns.specs.Playing.{stepped, firstFrom, isUnwritten, stopsAt, playedOf}
-use Rattle.run.specs.Call.{isBad, firstBad, readsUnwritten, firstUnwritten}
+use Rattle.method.specs.First.{firstFrom}
+use Rattle.method.proofs.Firsts.{first-none}
+use Rattle.turns.specs.Playing.{stepped, isUnwritten, stopsAt, playedOf}
+use Rattle.verdict.specs.Refusals.{firstBad}
+use Rattle.verdict.proofs.Judging.{none-is-bad}
+use Rattle.run.specs.Call.{readsUnwritten, firstUnwritten}
 use Rattle.run.proofs.Agree.{stepped-after, stops-first}
 use Rattle.text.specs.Sound.{GoodTurns}
 use Rattle.report.specs.Lines.{runLine, stockLine, stationLine, numbered}
@@ -25,23 +28,11 @@ use Rattle.report.specs.Put.{Put, countsIn}
 use Rattle.report.proofs.Laying.{put-then, put-same}
 use Rattle.report.proofs.Listed.{counts-rows}
 
--- where the test holds nowhere, the end is reached
-first-none : (f : ℕ → Bool) (t left : ℕ) → ((u : ℕ) → t ≤ u → u < t + left → f u ≡ false) → firstFrom f t left ≡ t + left
-unfolding firstFrom
-first-none f t zero h = omega arith
-first-none f t (suc left) h =
-    let ih : firstFrom f (suc t) left ≡ suc t + left = first-none f (suc t) left (λ u a b. h u (omega arith) (omega arith)) in
-    let e : firstFrom f t (suc left) ≡ firstFrom f (suc t) left = rw (h t (omega arith) (omega arith), firstFrom) in
-    omega arith
-
 not-unwritten : (d : Did) → (d ≡ Unwritten → ⊥) → isUnwritten d ≡ false
 not-unwritten Operation h = refl
 not-unwritten Idle h = refl
 not-unwritten Unwritten h = absurd (h refl)
 not-unwritten Nobody h = refl
-
-not-bad : (n : ℕ) (turns : List ℕ) (t : ℕ) → Station n (getD turns t 0) → isBad n turns t ≡ false
-not-bad n turns t st = rw (le-leb 1 (getD turns t 0) (st .low), le-leb (getD turns t 0) n (st .high))
 
 -- every turn of a plan that was taken names a station
 pub all-stations : {n : ℕ} {turns : List ℕ} → GoodTurns n turns → (t : ℕ) → t < length turns → Station n (getD turns t 0)
@@ -52,10 +43,7 @@ module _ (n : ℕ) (sets turns : List ℕ) (high : n ≤ 16) (sixteen : length s
   fits = fits-board n sets high (omega arith)
 
   past : length turns ≤ firstBad n turns
-  unfolding firstBad
-  past =
-      let e : firstFrom (isBad n turns) 0 (length turns) ≡ 0 + length turns = first-none (isBad n turns) 0 (length turns) (λ u a b. not-bad n turns u (named u (omega arith))) in
-      omega arith
+  past = none-is-bad n turns named
 
   -- no turn reads a line never written, so every turn is made
   all-made : stopsAt (fresh n sets) turns ≡ length turns

@@ -17,7 +17,7 @@ use Rattle.method.specs.Turn.{after}
 use Rattle.method.specs.Demand.{Fits, isSettled, idleTurns}
 use Rattle.method.proofs.Demand3.{fits-board, counts-add-up, count-within}
 use Rattle.report.proofs.Running.{all-stations}
-use Rattle.run.specs.Answer.{shownOf}
+use Rattle.answer.specs.Answer.{shownOf}
 use Rattle.text.specs.Limits.{mostCode}
 use Rattle.text.specs.Text.{LF, tab}
 use Rattle.text.specs.declared.Fault.{Fault}

@@ -4,7 +4,7 @@ use mathlib.Core.Bool.{Bool, true, false}
 use mathlib.Core.List.{List, [], _∷_, _++_}
 use Rattle.method.specs.declared.Row.{Row}
 use Rattle.method.specs.Demand.{isSettled}
-use Rattle.run.specs.Answer.{shownOf}
+use Rattle.answer.specs.Answer.{shownOf}
 use Rattle.text.specs.Text.{LF, tab}
 use Rattle.report.specs.Digits.{decimal, hex}
 

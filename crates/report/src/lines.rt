@@ -51,7 +51,7 @@ pub fn put_station(page: &mut [u8], at: usize, i: u16, row: Row) -> usize
     ensures { λ r. ⌜ r ≤ at + mostStation ⌝ }
 {
     let state = row.state;
-    let told = run::shown::shown_of(state);
+    let told = answer::shown::shown_of(state);
     let settled = told.number == 2;
     let a = put_bytes(page, at, b"ST\t");
     let b = put_number(page, a, i, b'\t');

@@ -1,89 +1,32 @@
 -- A call that passed the tests: what is played on the record is the method's run, and the answer is its rows.
-use Prim.Native.Nat.{ℕ, zero, suc, _+_, _*_, _≤_, _<_}
+use Prim.Native.Nat.{ℕ, zero, suc, _≤_, _<_}
 use mathlib.Core.Path.{_≡_, refl, sym, ap, _∙_}
-use mathlib.Core.Logic.{⊎-elim}
-use mathlib.Core.Bool.{Bool, true, false, not, _&&_, false≢true}
-use mathlib.Core.List.{List, _++_}
-use native.Mathlib.Nat.{eq-or-lt-of-le, le-antisymm, le-refl}
+use mathlib.Core.Bool.{not}
+use mathlib.Core.List.{List}
+use native.Mathlib.Nat.{le-antisymm, le-refl}
 use native.Mathlib.Omega.{arith}
-use borrow.Author.Tests.{lt-ltb, le-ltb, leb-true}
-use lib.Dec.{leb}
-use lib.ListN.{length, getD, drop}
+use borrow.Author.Tests.{lt-ltb, le-ltb}
+use lib.ListN.{length, getD}
 use Rattle.method.specs.declared.Run.{Run}
 use Rattle.method.specs.declared.Turned.{Turned}
 use Rattle.method.specs.Board.{levels, registers, fresh, freshOn, rowOf}
 use Rattle.method.specs.Turn.{turn, after}
-use Rattle.method.specs.Demand.{Fits, Station}
+use Rattle.method.specs.Demand.{Fits}
 use Rattle.method.proofs.Demand3.{count-within, fits-board}
 use Rattle.turns.specs.declared.playing.Played.{Played}
 use Rattle.turns.specs.Moves.{countEnd}
 use Rattle.turns.specs.Step.{stepOf}
-use Rattle.turns.specs.Playing.{stepped, firstFrom, unwrittenStep, stopsAt, playedOf}
-use Rattle.run.specs.declared.verdict.Verdict.{Verdict}
-use Rattle.run.specs.declared.verdict.Verdict.the-variants.{Accepted, NoStations, WrongInputs, TooManyTurns, BadTurn, ShortAnswer, UnwrittenLine}
-use Rattle.run.specs.Bytes.{inputsIn}
-use Rattle.run.specs.Answer.{answerBytes}
-use Rattle.run.specs.Call.{numberOf, isBad, firstBad, tests, readsUnwritten, firstUnwritten, begun, playedOut, verdictOf, answerFor, returned, answered, Called}
-use Rattle.run.proofs.Judging.{Taken, taken}
+use Rattle.turns.specs.Playing.{stepped, unwrittenStep, stopsAt, playedOf}
+use Rattle.verdict.specs.declared.Verdict.{Verdict}
+use Rattle.verdict.specs.declared.Verdict.the-variants.{Accepted, NoStations, WrongInputs, TooManyTurns, BadTurn, ShortAnswer, UnwrittenLine}
+use Rattle.run.specs.Inputs.{inputsIn}
+use Rattle.answer.specs.Answer.{answerIn}
+use Rattle.verdict.specs.Refusals.{numberOf, firstBad, tests}
+use Rattle.run.specs.Call.{readsUnwritten, firstUnwritten, begun, playedOut, verdictOf, answerFor, returned, answered, Called}
+use Rattle.verdict.proofs.Judging.{Taken, taken, stations-named}
+use Rattle.answer.proofs.Laid.{answer-with-room}
+use Rattle.method.proofs.Firsts.{first-same, first-within}
 use Rattle.run.proofs.Little.{inputs-length}
-
--- ---- looking for the first at which a test holds
-
-from-true : (f : ℕ → Bool) (t left : ℕ) → f t ≡ true → firstFrom f t (suc left) ≡ t
-unfolding firstFrom
-from-true f t left e = rw (e, firstFrom)
-
-from-false : (f : ℕ → Bool) (t left : ℕ) → f t ≡ false → firstFrom f t (suc left) ≡ firstFrom f (suc t) left
-unfolding firstFrom
-from-false f t left e = rw (e, firstFrom)
-
--- two tests that agree on the way stop at the same
-first-same : (f g : ℕ → Bool) (t left : ℕ) → ((u : ℕ) → t ≤ u → u < t + left → f u ≡ g u) → firstFrom f t left ≡ firstFrom g t left
-unfolding firstFrom
-first-same f g t zero h = refl
-first-same f g t (suc left) h =
-    go (g t) refl (first-same f g (suc t) left (λ u a b. h u (omega arith) (omega arith)))
-  where
-    go : (b : Bool) → g t ≡ b → firstFrom f (suc t) left ≡ firstFrom g (suc t) left → firstFrom f t (suc left) ≡ firstFrom g t (suc left)
-    go true e ih = from-true f t left (h t (omega arith) (omega arith) ∙ e) ∙ sym (from-true g t left e)
-    go false e ih = from-false f t left (h t (omega arith) (omega arith) ∙ e) ∙ ih ∙ sym (from-false g t left e)
-
--- the end is not passed
-first-within : (f : ℕ → Bool) (t left : ℕ) → firstFrom f t left ≤ t + left
-unfolding firstFrom
-first-within f t zero = omega arith
-first-within f t (suc left) = go (f t) refl (first-within f (suc t) left)
-  where
-    go : (w : Bool) → f t ≡ w → firstFrom f (suc t) left ≤ suc t + left → firstFrom f t (suc left) ≤ t + suc left
-    go true e ih = rw (from-true f t left e) (omega arith)
-    go false e ih = rw (from-false f t left e) (omega arith)
-
--- where the end is reached, the test held nowhere
-first-past : (f : ℕ → Bool) (t left u : ℕ) → t + left ≤ firstFrom f t left → t ≤ u → u < t + left → f u ≡ false
-unfolding firstFrom
-first-past f t zero u h a b = absurd (omega arith)
-first-past f t (suc left) u h a b = go (f t) refl (λ p q. first-past f (suc t) left u p q (omega arith))
-  where
-    go : (w : Bool) → f t ≡ w → (suc t + left ≤ firstFrom f (suc t) left → suc t ≤ u → f u ≡ false) → f u ≡ false
-    go true e ih = let z : t + suc left ≤ t = rw (from-true f t left e) at h in absurd (omega arith)
-    go false e ih =
-        let r : t + suc left ≤ firstFrom f (suc t) left = rw (from-false f t left e) at h in
-        ⊎-elim (λ (s : t ≡ u). rw (← s) e) (λ (l : t < u). ih (omega arith) l) (eq-or-lt-of-le a)
-
--- ---- the turns of a call that passed the tests name stations
-
-good : (n : ℕ) (turns : List ℕ) (t : ℕ) → isBad n turns t ≡ false → Station n (getD turns t 0)
-good n turns t e = go (leb 1 (getD turns t 0)) (leb (getD turns t 0) n) refl refl e
-  where
-    go : (a b : Bool) → leb 1 (getD turns t 0) ≡ a → leb (getD turns t 0) n ≡ b → not (a && b) ≡ false → Station n (getD turns t 0)
-    go true true p q z = record { low = leb-true _ _ p; high = leb-true _ _ q }
-    go true false p q z = absurd (false≢true (sym z))
-    go false b p q z = absurd (false≢true (sym z))
-
-pub stations-named : (n : ℕ) (turns : List ℕ) → length turns ≤ firstBad n turns → (t : ℕ) → t < length turns → Station n (getD turns t 0)
-unfolding firstBad
-stations-named n turns past t h =
-    good n turns t (first-past (isBad n turns) 0 (length turns) t (let z : 0 + length turns ≡ length turns = omega arith in rw z past) (omega arith) (omega arith))
 
 module _ (n : ℕ) (stocks turns : List ℕ) (high : n ≤ 16) (sixteen : length stocks ≡ 16) (few : length turns ≤ 4096) (past : length turns ≤ firstBad n turns) where
   fits : Fits levels registers n stocks
@@ -126,7 +69,7 @@ module _ (n : ℕ) (inputs turns answer : List ℕ) (e : tests n (length inputs)
       let v : UnwrittenLine (out .at) ≡ verdictOf n inputs turns answer = rw (e, ← at, lt-ltb _ _ h) in
       record { came = v; left = rw (← v) }
 
-  pub called-done : (out : Played) (last : List ℕ) → out ≡ playedOf (begun n inputs) turns → length turns ≤ out .at → last ≡ answerBytes n (out .run .rows) ++ drop (20 * n) answer → Called n inputs turns answer Accepted last
+  pub called-done : (out : Played) (last : List ℕ) → out ≡ playedOf (begun n inputs) turns → length turns ≤ out .at → last ≡ answerIn n (out .run .rows) answer → Called n inputs turns answer Accepted last
   unfolding verdictOf
   called-done out last p h f =
       let at : out .at ≡ firstUnwritten (begun n inputs) turns = ap (λ (x : Played). x .at) p ∙ stop in
@@ -136,7 +79,7 @@ module _ (n : ℕ) (inputs turns answer : List ℕ) (e : tests n (length inputs)
       ap (λ (x : Played). x .run) p ∙ ap (λ (u : ℕ). stepped (begun n inputs) turns u) end
       ∙ stepped-after n (inputsIn 16 inputs) turns (t .high) (inputs-length 16 inputs) (t .few) (t .good) (length turns) (le-refl (length turns)) in
       let v : Accepted ≡ verdictOf n inputs turns answer = rw (e, ← at, le-ltb _ _ h) in
-      record { came = v; left = f ∙ rw (← v, ran) }
+      record { came = v; left = f ∙ answer-with-room n (out .run .rows) answer (t .high) (t .wide) ∙ rw (← v, ran) }
 
 -- what is played from the call's own inputs
 pub played-begun : (n : ℕ) (inputs turns stocks : List ℕ) (start : Run) (out : Played) → stocks ≡ inputsIn 16 inputs → start ≡ fresh n stocks → out ≡ playedOf start turns → out ≡ playedOf (begun n inputs) turns

@@ -14,15 +14,15 @@ use Rattle.method.specs.Board.{fresh, rowOf, notBegun}
 use Rattle.method.specs.Turn.{after}
 use Rattle.method.specs.Demand.{Fits, Station, SettledOn, inputOf, gathered, timesNamed, turnsUnsettled, idleTurns, countsOf, mostOperations}
 use Rattle.method.proofs.Moments.{always-sound}
-use Rattle.run.specs.declared.verdict.Verdict.{Verdict}
-use Rattle.run.specs.declared.verdict.Verdict.the-variants.{Accepted, NoStations, WrongInputs, TooManyTurns, BadTurn, ShortAnswer, UnwrittenLine}
-use Rattle.run.specs.Bytes.{inputsIn}
-use Rattle.run.specs.Answer.{rowBytes, answerBytes}
-use Rattle.run.specs.Call.{tests, begun, playedOut, verdictOf, answered}
-use Rattle.run.proofs.Judging.{Taken, taken}
+use Rattle.verdict.specs.declared.Verdict.{Verdict}
+use Rattle.verdict.specs.declared.Verdict.the-variants.{Accepted, NoStations, WrongInputs, TooManyTurns, BadTurn, ShortAnswer, UnwrittenLine}
+use Rattle.run.specs.Inputs.{inputsIn}
+use Rattle.answer.specs.Answer.{rowBytes, answerBytes}
+use Rattle.verdict.specs.Refusals.{tests}
+use Rattle.run.specs.Call.{begun, playedOut, verdictOf, answered}
+use Rattle.verdict.proofs.Judging.{Taken, taken, stations-named}
 use Rattle.run.proofs.Little.{inputs-length}
-use Rattle.run.proofs.Laid.{row-length}
-use Rattle.run.proofs.Agree.{stations-named}
+use Rattle.answer.proofs.Laid.{row-length}
 use Rattle.method.proofs.Demand3 as D
 
 -- a call is accepted only where the tests accept it

@@ -1,7 +1,4 @@
 -- Laws for the proofs of this crate.
 mod Little
-mod Showing
-pub mod Laid
-mod Judging
 pub mod Agree
 pub mod Demands

@@ -1,5 +1,5 @@
--- Little-endian numbers: read from a list of bytes, and put into one.
-use Prim.Native.Nat.{ℕ, zero, suc, _+_, _-_, _*_, _/_, _%_, _^_, _≤_, _<_}
+-- Little-endian numbers, read from a list of bytes.
+use Prim.Native.Nat.{ℕ, zero, suc, _+_, _-_, _*_, _^_, _≤_, _<_}
 use mathlib.Core.Path.{_≡_, refl, sym, ap, _∙_}
 use mathlib.Core.List.{List, _∷_}
 use native.Mathlib.Nat.{add-zero, lt-of-lt-of-le, pow-succ', pow-le-pow-right}
@@ -7,8 +7,8 @@ use native.Mathlib.Decide.{decLt}
 use native.Mathlib.Omega.{arith}
 use borrow.Author.Count.{below-more}
 use lib.ListN.{length, getD, take, drop, set, length-set, drop-of-length-le, replicate}
-use lib.Seq.{sets, drop-cons, drop-drop, ext-getD, getD-set-same, getD-set-other}
-use Rattle.run.specs.Bytes.{bytesOf, numberIn, inputsIn}
+use lib.Seq.{drop-cons, drop-drop, ext-getD, getD-set-same, getD-set-other}
+use Rattle.run.specs.Inputs.{numberIn, inputsIn}
 
 -- ---- a number out of eight bytes
 
@@ -41,31 +41,6 @@ pub numbered-all : {l : List ℕ} {at left x : ℕ} → Numbered l at left x →
 numbered-all {l} {at} {left} {x} p h =
     let none : left ≡ 0 = omega arith in
     p .is ∙ rw (none, add-zero)
-
--- ---- the bytes of a number, put one by one
-
--- what is still to be put makes the whole
-pub record Putting (l₀ : List ℕ) (at w x : ℕ) (l : List ℕ) (rest i : ℕ) : Type 0 where
-  pub low : i ≤ w
-  pub long : length l ≡ length l₀
-  pub whole : sets l (at + i) (bytesOf (w - i) rest) ≡ sets l₀ at (bytesOf w x)
-
-pub putting-none : (l : List ℕ) (at w x : ℕ) → Putting l at w x l x 0
-putting-none l at w x =
-    let here : at + 0 ≡ at = omega arith in
-    let all : w - 0 ≡ w = omega arith in
-    record { low = omega arith; long = refl; whole = rw (here, all) }
-
-pub putting-more : {l₀ l : List ℕ} {at w x rest i : ℕ} → Putting l₀ at w x l rest i → i < w → Putting l₀ at w x (set l (at + i) (rest % 256)) (rest / 256) (i + 1)
-unfolding bytesOf
-putting-more {l₀} {l} {at} {w} {x} {rest} {i} p h =
-    let one : w - i ≡ suc (w - (i + 1)) = omega arith in
-    let next : suc (at + i) ≡ at + (i + 1) = omega arith in
-    record { low = omega arith; long = length-set l (at + i) (rest % 256) ∙ p .long; whole = rw (← next) (rw one at (p .whole)) }
-
-pub putting-all : {l₀ l : List ℕ} {at w x rest i : ℕ} → Putting l₀ at w x l rest i → w ≤ i → l ≡ sets l₀ at (bytesOf w x)
-unfolding bytesOf
-putting-all {l₀} {l} {at} {w} {x} {rest} {i} p h = let none : w - i ≡ 0 = omega arith in rw none at (p .whole)
 
 -- ---- the inputs
 

@@ -1,47 +1,20 @@
 -- The run call: document 01, "The run call".
-use Prim.Native.Nat.{ℕ, _+_, _*_}
-use mathlib.Core.Bool.{Bool, cond, not, _&&_}
+use Prim.Native.Nat.{ℕ, _*_}
+use mathlib.Core.Bool.{Bool, cond}
 use mathlib.Core.Path.{_≡_}
 use mathlib.Core.List.{List, _++_}
-use lib.Dec.{leb, ltb, eqb}
+use lib.Dec.{ltb}
 use lib.ListN.{length, getD, drop}
-use Rattle.sets.specs.Limits.{mostTurns}
 use Rattle.method.specs.declared.Run.{Run}
 use Rattle.method.specs.Board.{registers, fresh}
 use Rattle.method.specs.Turn.{after, turn}
-use Rattle.run.specs.declared.verdict.Verdict.{Verdict}
-use Rattle.run.specs.declared.verdict.Verdict.the-variants.{Accepted, NoStations, WrongInputs, TooManyTurns, BadTurn, ShortAnswer, UnwrittenLine}
-use Rattle.turns.specs.Playing.{firstFrom, isUnwritten}
-use Rattle.run.specs.Bytes.{inputsIn}
-use Rattle.run.specs.Answer.{answerBytes}
-
--- "The number returned is 0, or the refusal plus 100 times its place."
-abbrev pub numberOf : Verdict → ℕ
-numberOf Accepted = 0
-numberOf NoStations = 1
-numberOf WrongInputs = 2
-numberOf TooManyTurns = 3
-numberOf (BadTurn at) = 4 + 100 * at
-numberOf ShortAnswer = 5
-numberOf (UnwrittenLine at) = 6 + 100 * at
-
--- "a turn is 0 or above n": the first such turn, counted from 0
-abbrev pub isBad : ℕ → List ℕ → ℕ → Bool
-isBad n turns t = not (leb 1 (getD turns t 0) && leb (getD turns t 0) n)
-
-unfoldable pub firstBad : ℕ → List ℕ → ℕ
-firstBad n turns = firstFrom (isBad n turns) 0 (length turns)
-
--- the refusals 1 to 5, "tested in this order", of a call with n stations, so many input bytes, these turns, and so many answer bytes
-unfoldable pub tests : ℕ → ℕ → List ℕ → ℕ → Verdict
-tests n inputBytes turns answerSize =
-    cond (leb 1 n && leb n registers)
-    (cond (eqb inputBytes (8 * n))
-    (cond (leb (length turns) mostTurns)
-    (cond (ltb (firstBad n turns) (length turns)) (BadTurn (firstBad n turns)) (cond (leb (20 * n) answerSize) Accepted ShortAnswer))
-    TooManyTurns)
-    WrongInputs)
-    NoStations
+use Rattle.method.specs.First.{firstFrom}
+use Rattle.verdict.specs.declared.Verdict.{Verdict}
+use Rattle.verdict.specs.declared.Verdict.the-variants.{Accepted, NoStations, WrongInputs, TooManyTurns, BadTurn, ShortAnswer, UnwrittenLine}
+use Rattle.verdict.specs.Refusals.{numberOf, tests}
+use Rattle.turns.specs.Playing.{isUnwritten}
+use Rattle.answer.specs.Answer.{answerBytes}
+use Rattle.run.specs.Inputs.{inputsIn}
 
 -- "a turn reads a line X never written": the first such turn
 abbrev pub readsUnwritten : Run → List ℕ → ℕ → Bool

@@ -1,4 +1,3 @@
 -- The run call, as document 01 words it.
-pub mod Bytes
-pub mod Answer
+pub mod Inputs
 pub mod Call

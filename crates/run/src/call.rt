@@ -1,13 +1,13 @@
 // The run call, for the RIP's host program in C.
 ghost use mathlib.Core.Path.{_≡_};
 ghost use lib.ListN.{length};
-ghost use Rattle.run.specs.declared.verdict.Verdict.the-variants.{Accepted};
-ghost use Rattle.run.specs.Call.{tests, returned, answered, Called};
-use super::tests::tested;
-use super::told;
-use super::verdict::Verdict;
-use super::verdict::number_of;
+ghost use Rattle.verdict.specs.declared.Verdict.the-variants.{Accepted};
+ghost use Rattle.verdict.specs.Refusals.{tests};
+ghost use Rattle.run.specs.Call.{returned, answered, Called};
 use super::words;
+use verdict::Verdict;
+use verdict::number_of;
+use verdict::tests::tested;
 
 // A call that passed the tests: it is run, and the answer is written after the last turn.
 fn carried_out(n: u64, inputs: &[u8], turns: &[u8], answer: &mut [u8]) -> Verdict
@@ -22,7 +22,7 @@ fn carried_out(n: u64, inputs: &[u8], turns: &[u8], answer: &mut [u8]) -> Verdic
         return Verdict::UnwrittenLine { at: at as u16 };
     }
     let rows = out.run.rows;
-    told::put_rows(answer, stations, rows);
+    answer::told::put_answer(answer, stations, rows);
     Verdict::Accepted
 }
 

@@ -1,10 +1,9 @@
-// Little-endian numbers in byte slices.
+// The inputs, out of their bytes.
 ghost use mathlib.Core.Path.{_≡_};
 ghost use Prim.Native.Nat.{_+_, _*_, _≤_, _<_};
 ghost use lib.ListN.{length, take, drop};
-ghost use lib.Seq.{sets};
 ghost use Rattle.sets.specs.Limits.{mostStations};
-ghost use Rattle.run.specs.Bytes.{bytesOf, numberIn, inputsIn};
+ghost use Rattle.run.specs.Inputs.{numberIn, inputsIn};
 use sets::limits::STATIONS;
 
 // A byte as a wider number, which is still below 256.
@@ -40,18 +39,4 @@ pub fn inputs_of(n: usize, bytes: &[u8]) -> [u64; STATIONS]
         i += 1;
     }
     inputs
-}
-
-// Puts the w lowest bytes of x from `at` on.
-pub fn put_number(dst: &mut [u8], at: usize, w: usize, x: u64)
-    requires { ⌜ at + w ≤ length (now dst) ⌝ }
-    ensures { λ r. ⌜ now (dst .exit) ≡ sets (now (dst .entry)) at (bytesOf w x) ⌝ }
-{
-    let mut rest = x;
-    let mut i = 0;
-    while i < w {
-        dst[at + i] = (rest % 256) as u8;
-        rest /= 256;
-        i += 1;
-    }
 }

@@ -1,10 +1,9 @@
--- A look through an order of turns for the first at which a test holds, and the record on the way.
-use Prim.Native.Nat.{ℕ, suc, _+_, _-_, _≤_, _<_}
-use mathlib.Core.Path.{_≡_, refl, sym, ap, subst, _∙_}
+-- A look through an order of turns for the first that would read a line never written, and the record on the way.
+use Prim.Native.Nat.{ℕ, _+_, _-_, _≤_, _<_}
+use mathlib.Core.Path.{_≡_, refl, sym, subst, _∙_}
 use mathlib.Core.Bool.{Bool, true, false, cond, _&&_, and-false}
 use mathlib.Core.List.{List}
 use native.Mathlib.Numerals.{add-one}
-use native.Mathlib.Omega.{arith}
 use borrow.Author.Tests.{leb-true}
 use lib.Dec.{T as Holds, leb, ltb}
 use lib.ListN.{length, getD}
@@ -20,44 +19,13 @@ use Rattle.method.specs.Board.{notBegun, rowOf, lineOf}
 use Rattle.method.specs.Steps.{nextOp}
 use Rattle.method.specs.Turn.{turned, readLine, perform, named, turn}
 use Rattle.method.specs.Demand.{isSettled}
+use Rattle.method.specs.First.{firstFrom}
+use Rattle.method.proofs.Firsts.{Passed, passed-none, passed-more, passed-stop, passed-all}
 use Rattle.turns.specs.Moves.{countEnd}
 use Rattle.turns.specs.Step.{stepOf}
 use Rattle.turns.specs.Places.{seatAt}
 use Rattle.turns.proofs.Placing.{seat-own}
-use Rattle.turns.specs.Playing.{stepped, firstFrom, isUnwritten, unwrittenStep, stopsAt, playedOf}
-
-module _ (test : ℕ → Bool) where
-  here : (t left : ℕ) → test t ≡ true → firstFrom test t (suc left) ≡ t
-  unfolding firstFrom
-  here t left e = rw (e, firstFrom)
-
-  further : (t left : ℕ) → test t ≡ false → firstFrom test t (suc left) ≡ firstFrom test (suc t) left
-  unfolding firstFrom
-  further t left e = rw (e, firstFrom)
-
-  -- the first t of m have been looked at, and the test held at none
-  pub record Passed (m t : ℕ) : Type 0 where
-    pub within : t ≤ m
-    pub rest : firstFrom test 0 m ≡ firstFrom test t (m - t)
-
-  pub passed-none : (m : ℕ) → Passed m 0
-  passed-none m = let e : m - 0 ≡ m = omega arith in record { within = omega arith; rest = rw e }
-
-  -- one more is left at t
-  split : {m t : ℕ} → t < m → (left : ℕ) × (m - t ≡ suc left) × (m - (t + 1) ≡ left)
-  split {m} {t} h = (m - (t + 1), omega arith, refl)
-
-  pub passed-more : {m t : ℕ} → Passed m t → t < m → test t ≡ false → Passed m (t + 1)
-  passed-more {m} {t} p h e =
-      let s = split h in
-      record { within = omega arith; rest = p .rest ∙ rw (s .1, s .2) (further t (s .0) e ∙ ap (λ (x : ℕ). firstFrom test x (s .0)) (sym (add-one t))) }
-
-  pub passed-stop : {m t : ℕ} → Passed m t → t < m → test t ≡ true → firstFrom test 0 m ≡ t
-  passed-stop {m} {t} p h e = let s = split h in p .rest ∙ rw (s .1) (here t (s .0) e)
-
-  pub passed-all : {m t : ℕ} → Passed m t → m ≤ t → firstFrom test 0 m ≡ t
-  unfolding firstFrom
-  passed-all {m} {t} p h = let e : m - t ≡ 0 = omega arith in p .rest ∙ rw e
+use Rattle.turns.specs.Playing.{stepped, isUnwritten, unwrittenStep, stopsAt, playedOf}
 
 -- a turn that leaves the record as it is, and would read no line never written
 pub record Still (now : Run) (x : Turned) : Type 0 where

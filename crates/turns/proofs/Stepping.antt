@@ -4,7 +4,7 @@ use mathlib.Core.Path.{_≡_, refl, sym, ap, subst, _∙_}
 use mathlib.Core.Bool.{Bool, true, false, cond, _&&_}
 use mathlib.Core.List.{List}
 use native.Mathlib.Omega.{arith}
-use borrow.Author.Tests.{leb-true, leb-false, ltb-true, ltb-false, lt-ltb, le-leb}
+use borrow.Author.Tests.{leb-true, ltb-true, ltb-false, lt-ltb, le-leb}
 use lib.Dec.{T as Holds, leb, ltb}
 use lib.ListN.{length, getD, set, List·getD-eq-default}
 use lib.Seq.{set-out, set-getD}
@@ -18,8 +18,7 @@ use Rattle.method.specs.declared.State.{State}
 use Rattle.method.specs.declared.State.the-variants.{NotBegun, Uniting, Gathering, Settled}
 use Rattle.method.specs.declared.Row.{Row}
 use Rattle.method.specs.declared.Run.{Run}
-use Rattle.method.specs.declared.Op.{Op}
-use Rattle.method.specs.declared.Op.the-variants.{Post, Write, Read, ReadLine, Rest}
+use Rattle.method.specs.declared.Op.the-variants.{Post, Write, Read, ReadLine}
 use Rattle.method.specs.declared.Did.{Did}
 use Rattle.method.specs.declared.Did.the-variants.{Operation, Idle, Unwritten, Nobody}
 use Rattle.method.specs.declared.Turned.{Turned}
@@ -33,7 +32,7 @@ use Rattle.turns.specs.declared.lines.Lined.{Lined}
 use Rattle.turns.specs.Moves.{countEnd}
 use Rattle.turns.specs.Step.{stepOf}
 use Rattle.turns.specs.Places.{seatAt, aim, nowhere, registerAim, aimOf, spot, noLine, lineSpot, spotOf}
-use Rattle.turns.specs.Moves.{mayTurn, isUniting, oneMore, effectOf, onward, unitedOf, leaves, linedBy, linedOf}
+use Rattle.turns.specs.Moves.{mayTurn, isUniting, oneMore, onward, unitedOf, leaves, linedBy, linedOf}
 use Rattle.turns.proofs.Placing.{seat-own}
 use Rattle.turns.proofs.Record.{withBoard, withLines, withRows, levelAt, withCell, same-cell}
 

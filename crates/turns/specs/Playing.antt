@@ -6,6 +6,7 @@ use lib.ListN.{length, getD}
 use Rattle.method.specs.declared.Did.{Did}
 use Rattle.method.specs.declared.Did.the-variants.{Operation, Idle, Unwritten, Nobody}
 use Rattle.method.specs.declared.Run.{Run}
+use Rattle.method.specs.First.{firstFrom}
 use Rattle.turns.specs.declared.playing.Played.{Played}
 use Rattle.turns.specs.Step.{stepOf}
 
@@ -13,11 +14,6 @@ use Rattle.turns.specs.Step.{stepOf}
 unfoldable pub stepped : Run → List ℕ → ℕ → Run
 stepped run turns zero = run
 stepped run turns (suc t) = stepOf (stepped run turns t) (getD turns t 0) .run
-
--- the first t from here on, of `left` more, at which the test holds; where there is none, the end
-unfoldable pub firstFrom : (ℕ → Bool) → ℕ → ℕ → ℕ
-firstFrom test t zero = t
-firstFrom test t (suc left) = elim (test t) [ true ↦ t | false ↦ firstFrom test (suc t) left ]
 
 abbrev pub isUnwritten : Did → Bool
 isUnwritten Operation = false

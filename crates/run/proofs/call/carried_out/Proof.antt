@@ -1,7 +1,7 @@
 use native.Mathlib.Omega.{arith}
 use borrow.Author.Needs.{needs}
 use Rattle.run.proofs.Agree.{called-stopped, called-done, played-begun}
-use Rattle.run.proofs.Judging.{taken}
+use Rattle.verdict.proofs.Judging.{taken}
 use Rattle.run.proofs.call.carried_out.Statement.{statement}
 use Rattle.run.proofs.call.carried_out.Tie as tie
 
@@ -25,8 +25,8 @@ returns c =
     called-stopped _ _ _ _ (c .before .before .before .before .before .before .before .pre) (c .before .play-out .result)
     (played-begun _ _ _ _ _ _ (c .before .before .before .inputs-of .ensures) (c .before .before .fresh .ensures) (c .before .play-out .ensures)) (c .if1 .taken)
 
-put-rows-requires : tie.Need-put-rows-requires
-put-rows-requires c κs = let t = taken _ _ _ _ (c .before .before .before .before .before .before .before .before .before .pre) in (omega (arith, t .high), omega (arith, t .wide))
+put-answer-requires : tie.Need-put-answer-requires
+put-answer-requires c κs = search needs
 
 same-length : tie.Need-same-length
 same-length c = search needs
@@ -34,7 +34,7 @@ same-length c = search needs
 returns-2 : tie.Need-returns-2
 returns-2 c =
     called-done _ _ _ _ (c .before .before .before .before .before .before .before .before .before .before .before .before .pre) (c .before .before .before .before .before .before .play-out .result) _
-    (played-begun _ _ _ _ _ _ (c .before .before .before .before .before .before .before .before .inputs-of .ensures) (c .before .before .before .before .before .before .before .fresh .ensures) (c .before .before .before .before .before .before .play-out .ensures)) (c .before .before .before .before .before .if1 .left) (c .before .before .put-rows .ensures)
+    (played-begun _ _ _ _ _ _ (c .before .before .before .before .before .before .before .before .inputs-of .ensures) (c .before .before .before .before .before .before .before .fresh .ensures) (c .before .before .before .before .before .before .play-out .ensures)) (c .before .before .before .before .before .if1 .left) (c .before .before .put-answer .ensures)
 
 pub carried-out-spec : {M : Type 1} → statement M
 carried-out-spec =
@@ -46,6 +46,6 @@ carried-out-spec =
     play-out-requires
     cast-t14
     returns
-    put-rows-requires
+    put-answer-requires
     same-length
     returns-2)

@@ -1,5 +1,5 @@
 use mathlib.Core.Path.{_∙_, ap}
-use Rattle.run.specs.Call.{numberOf}
+use Rattle.verdict.specs.Refusals.{numberOf}
 use Rattle.run.proofs.Agree.{passes, refused-call}
 use borrow.Author.Needs.{needs}
 use Rattle.run.proofs.call.gang_run.Statement.{statement}
