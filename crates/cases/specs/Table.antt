@@ -25,9 +25,9 @@ use Rattle.text.specs.Code.{codeOf}
 use Rattle.text.specs.Refusal.{numberOf}
 use Rattle.text.specs.Plan.{each, station, takeTurn, takeCode, addStock, wordOf, hasLine, turnLine, laterLine, gangOf, firstLine, laterLines, reading}
 use Rattle.text.specs.Plan as Plan
-use Rattle.report.specs.Digits.{digits, widthIn, width}
-use Rattle.report.specs.Lines.{line, refusalLine, runLine, stockLine, stationLine, numbered}
-use Rattle.report.specs.Printed.{lines, report, printed}
+use Rattle.page.specs.Digits.{digits, widthIn, width}
+use Rattle.page.specs.Lines.{line, refusalLine, runLine, stockLine, stationLine, numbered, reportLines}
+use Rattle.report.specs.Printed.{report, printed}
 
 abbrev bytes : String → List ℕ
 bytes ends = []
@@ -106,7 +106,7 @@ given (prints plan report) = record { number = 0; bytes-are = bytes report }
 given (calls n inputs turns number answer) = record { number = number; bytes-are = answer }
 
 cases-right : map worked cases ≡ map given cases
-unfolding cases worked given ones holds memberFrom memberAfter arrayLength ownArray otherArray place depthFrom depth fresh freshOn rowOf lineOf levelOf registerOf withRow withLine withRegister gather climb writing pending reach again roundOver readOther readOwn absorbOwn absorbOther nextOp absorb goesOn perform named turn after didOf idleTurns firstFrom bytesOf numberIn inputsIn rowBytes answerBytes firstBad tests firstUnwritten verdictOf parted all run same valueOn numberTo codeOf numberOf each station takeTurn takeCode addStock Plan.code wordOf hasLine turnLine laterLine gangOf firstLine laterLines reading digits widthIn width line refusalLine runLine stockLine stationLine numbered lines report printed
+unfolding cases worked given ones holds memberFrom memberAfter arrayLength ownArray otherArray place depthFrom depth fresh freshOn rowOf lineOf levelOf registerOf withRow withLine withRegister gather climb writing pending reach again roundOver readOther readOwn absorbOwn absorbOther nextOp absorb goesOn perform named turn after didOf idleTurns firstFrom bytesOf numberIn inputsIn rowBytes answerBytes firstBad tests firstUnwritten verdictOf parted all run same valueOn numberTo codeOf numberOf each station takeTurn takeCode addStock Plan.code wordOf hasLine turnLine laterLine gangOf firstLine laterLines reading digits widthIn width line refusalLine runLine stockLine stationLine numbered reportLines report printed
 cases-right = refl
 
 -- J: "the limit there is 107"

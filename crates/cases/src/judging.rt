@@ -6,8 +6,8 @@ ghost use Rattle.report.specs.Printed.{mostPrinted};
 use super::parts::number_at;
 use super::parts::span_at;
 use super::parts::span_of;
+use page::PAGE;
 use report::Printed;
-use report::whole::PAGE;
 
 // What an entry of a file came to, and where the next one stands.
 pub struct Judged {

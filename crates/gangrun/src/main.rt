@@ -6,8 +6,8 @@ ghost use Rattle.text.specs.Limits.{mostBytes};
 ghost use Rattle.report.specs.Printed.{mostPrinted};
 use libc::STDIN_FILENO;
 use libc::STDOUT_FILENO;
+use page::PAGE;
 use report::Printed;
-use report::whole::PAGE;
 use sets::limits::BYTES;
 
 const ROOM: usize = BYTES + 1;

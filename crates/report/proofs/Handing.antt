@@ -7,11 +7,11 @@ use mathlib.Core.Bool.{Bool, true, false, cond}
 use borrow.Author.Tests.{le-leb, lt-leb, leb-true}
 use lib.Dec.{leb}
 use lib.ListN.{length, drop, take}
-use lib.Seq.{sets-eq, length-take-le}
+use lib.Seq.{sets-eq, length-take-le, take-length}
 use Rattle.report.specs.declared.Printed.{Printed}
 use Rattle.report.specs.declared.Printed.the-variants.{Whole, TooSmall}
 use Rattle.report.specs.Printed.{answerOf, bufferOf}
-use Rattle.report.specs.Put.{Put}
+use Rattle.page.specs.Put.{Put}
 
 pub too-small : (text out : List ℕ) → length out < length text → (TooSmall ≡ answerOf text (length out)) × (out ≡ bufferOf text out)
 unfolding answerOf bufferOf
@@ -23,9 +23,9 @@ put-front {page} {last} {text} {next} p h =
     let z : 0 + length text ≡ length text = omega arith in
     p .laid ∙ sets-eq text page 0 (rw z h) ∙ rw z
 
-pub handed : (text out last : List ℕ) (next : ℕ) → length text ≤ length out → Put out 0 text last next → (Whole (length text) ≡ answerOf text (length out)) × (last ≡ bufferOf text out)
+pub handed : (text out last : List ℕ) → length text ≤ length out → last ≡ take (length text) text ++ drop (length text) out → (Whole (length text) ≡ answerOf text (length out)) × (last ≡ bufferOf text out)
 unfolding answerOf bufferOf
-handed text out last next h p = (rw (le-leb (length text) (length out) h), put-front p h ∙ rw (le-leb (length text) (length out) h))
+handed text out last h p = (rw (le-leb (length text) (length out) h), p ∙ rw (take-length text, le-leb (length text) (length out) h))
 
 -- a text that was handed out whole ends within the buffer
 pub whole-within : (text last : List ℕ) (room : ℕ) (r : Printed) (end : ℕ) → r ≡ Whole end → r ≡ answerOf text room → length last ≡ room → end ≤ length last

@@ -1,9 +1,5 @@
 -- Laws for the proofs of this crate.
-mod Laying
-mod Numerals
-mod Fielding
-mod Lining
-mod Listed
+mod Counting
 pub mod Handing
 mod Running
 pub mod Sizes

@@ -1,10 +1,10 @@
 -- A plan that was read, and its report.
-use Prim.Native.Nat.{ℕ, zero, suc, _+_, _-_, _*_, _≤_, _<_}
+use Prim.Native.Nat.{ℕ, suc, _+_, _-_, _*_, _≤_, _<_, min}
 use mathlib.Core.Path.{_≡_, refl, sym, ap, _∙_}
 use mathlib.Core.List.{List, [], _∷_, _++_, map, append-assoc}
 use native.Mathlib.Nat.{add-zero}
 use native.Mathlib.Omega.{arith}
-use lib.ListN.{length, getD, take, drop, length-append, length-map, List·getD-append}
+use lib.ListN.{length, getD, take, drop}
 use lib.Seq.{sets, length-sets, length-take-le, take-at, drop-at, getD-drop, drop-drop, take-append-seam}
 use Rattle.text.specs.Limits.{mostStocks, mostTurns, mostCode}
 use Rattle.text.specs.declared.Fault.{Fault}
@@ -15,9 +15,10 @@ use Rattle.text.specs.Buffers.{zeros, padded, cellsOf, toldOf, setsAfter, codes
 use Rattle.text.specs.Plan.{Held, Reading, plan, refused, reading}
 use Rattle.text.proofs.Lengths.{padded-long}
 use Rattle.report.specs.declared.Printed.{Printed}
-use Rattle.report.specs.Lines.{refusalLine}
+use Rattle.page.specs.Lines.{refusalLine}
 use Rattle.report.specs.Printed.{report, printed, mostPrinted, answerOf, bufferOf}
-use Rattle.report.specs.Put.{Put, Ready, codesFrom}
+use Rattle.page.specs.Put.{Put, codesFrom, codesIn}
+use Rattle.report.specs.Ready.{Ready}
 use Rattle.text.specs.Sound.{Sound}
 use Rattle.text.proofs.Outcomes.{sound as plan-sound, place-most}
 use Rattle.report.proofs.Running.{all-stations}
@@ -36,7 +37,8 @@ module _ (cells lens : List ℕ) where
       let pad : List ℕ = zeros (mostCode - length c) in
       let cell : drop (k * mostCode) cells ≡ c ++ (pad ++ (cellsOf cs ++ z)) = p ∙ append-assoc (c ++ pad) (cellsOf cs) z ∙ append-assoc c pad (cellsOf cs ++ z) in
       let len : getD lens k 0 ≡ length c = ap (λ (n : ℕ). getD lens n 0) (sym (add-zero k)) ∙ sym (getD-drop k lens 0 0) ∙ ap (λ (l : List ℕ). getD l 0 0) q in
-      let code : take (getD lens k 0) (drop (k * mostCode) cells) ≡ c = rw (len, cell) (take-append-seam c (pad ++ (cellsOf cs ++ z))) in
+      let all : min (length c) mostCode ≡ length c = omega arith in
+      let code : take (min (getD lens k 0) mostCode) (drop (k * mostCode) cells) ≡ c = rw (len, all, cell) (take-append-seam c (pad ++ (cellsOf cs ++ z))) in
       let long : length (c ++ pad) ≡ mostCode = padded-long mostCode c small in
       let next : k * mostCode + mostCode ≡ suc k * mostCode = omega arith in
       let p′ : drop (suc k * mostCode) cells ≡ cellsOf cs ++ z =
@@ -45,20 +47,6 @@ module _ (cells lens : List ℕ) where
       let q′ : drop (suc k) lens ≡ map length cs ++ y = ap (λ (n : ℕ). drop n lens) (sym one) ∙ sym (drop-drop 1 k lens) ∙ ap (drop 1) q in
       let rest : codesFrom cells lens (suc k) (length cs) ≡ cs = cells-back (suc k) cs z y (λ j l. short (suc j) (omega arith)) p′ q′ in
       rw (code, rest)
-
-cells-length : (cs : List (List ℕ)) → ((j : ℕ) → j < length cs → length (getD cs j []) ≤ mostCode) → length (cellsOf cs) ≡ length cs * mostCode
-unfolding cellsOf
-cells-length [] h = refl
-cells-length (c ∷ cs) h =
-    let a = length-append (padded mostCode c) (cellsOf cs) in
-    let b = padded-long mostCode c (h 0 (omega arith)) in
-    let ih = cells-length cs (λ j l. h (suc j) (omega arith)) in
-    omega arith
-
-map-at : (cs : List (List ℕ)) (j : ℕ) → getD (map length cs) j 0 ≡ length (getD cs j [])
-map-at [] j = refl
-map-at (c ∷ cs) zero = refl
-map-at (c ∷ cs) (suc j) = map-at cs j
 
 -- ---- what was read
 
@@ -109,21 +97,6 @@ module _ {text : List ℕ} {n stocks turned : ℕ} {sets cells lens turns : List
   sound : Sound (r .of)
   sound = plan-sound text (r .of) (r .read)
 
-  cells-of : length (cellsOf (r .of .stocks .codes)) ≤ mostStocks * mostCode
-  cells-of =
-      let l = cells-length (r .of .stocks .codes) (λ j l. sound .stocks .codes .good j l .most) in
-      let m = sound .stocks .codes .most in
-      omega arith
-
-  pub cells-long : length cells ≡ mostStocks * mostCode
-  cells-long = ap length (r .cells-are) ∙ padded-long (mostStocks * mostCode) (cellsOf (r .of .stocks .codes)) cells-of
-
-  lens-of : length (map length (r .of .stocks .codes)) ≤ mostStocks
-  lens-of = let m = sound .stocks .codes .most in let l = length-map (r .of .stocks .codes) length in omega arith
-
-  pub lens-long : length lens ≡ mostStocks
-  lens-long = ap length (r .lens-are) ∙ padded-long mostStocks (map length (r .of .stocks .codes)) lens-of
-
   pub turns-long : turned ≤ length turns
   turns-long =
       let e : length turns ≡ mostTurns = ap length (r .turns-are) ∙ padded-long mostTurns (r .of .turns) (sound .turns .most) in
@@ -138,33 +111,25 @@ module _ {text : List ℕ} {n stocks turned : ℕ} {sets cells lens turns : List
   unfolding padded
   turns-back = ap (take turned) (r .turns-are) ∙ take-at (r .of .turns) (zeros (mostTurns - length (r .of .turns))) turned (r .made)
 
-  codes-back : codesFrom cells lens 0 stocks ≡ r .of .stocks .codes
+  codes-back : codesIn cells lens stocks ≡ r .of .stocks .codes
   unfolding padded
   codes-back =
-      ap (codesFrom cells lens 0) (sym (r .many))
+      let m = sound .stocks .codes .most in
+      let k = r .many in
+      let all : min stocks mostStocks ≡ length (r .of .stocks .codes) = omega arith in
+      ap (codesFrom cells lens 0) all
       ∙ cells-back cells lens 0 (r .of .stocks .codes) (zeros (mostStocks * mostCode - length (cellsOf (r .of .stocks .codes)))) (zeros (mostStocks - length (map length (r .of .stocks .codes)))) (λ j l. sound .stocks .codes .good j l .most) (r .cells-are) (r .lens-are)
 
-  -- the length of each code
-  code-short : (j : ℕ) → j < stocks → getD lens j 0 ≤ mostCode
-  unfolding padded
-  code-short j l =
-      let k : j < length (r .of .stocks .codes) = rw (r .many) l in
-      let m = length-map (r .of .stocks .codes) length in
-      rw (r .lens-are, List·getD-append (map length (r .of .stocks .codes)) (zeros (mostStocks - length (map length (r .of .stocks .codes)))) 0 j (omega arith), map-at (r .of .stocks .codes) j)
-      (sound .stocks .codes .good j k .most)
-
-  pub ready : (page : List ℕ) → length page ≡ mostPrinted → Ready page n sets stocks cells lens (take turned turns)
-  ready page long =
+  pub ready : Ready n sets (take turned turns)
+  ready =
       record {
-        page-long = long;
         high = rw (← r .stations) (sound .most);
         sets-long = ap length (r .sets-are) ∙ sound .stocks .sets;
-        celled = record { most = rw (← r .many) (sound .stocks .codes .most); cells-long = cells-long; lens-long = lens-long; short = code-short };
         few = rw turns-back (sound .turns .most);
         named = rw (turns-back, ← r .stations) (all-stations (sound .turns));
       }
 
-  pub report-is : report n sets (codesFrom cells lens 0 stocks) (take turned turns) ≡ printed text
+  pub report-is : report n sets (codesIn cells lens stocks) (take turned turns) ≡ printed text
   unfolding printed
   report-is = rw (codes-back, turns-back, r .sets-are, ← r .stations, r .read)
 

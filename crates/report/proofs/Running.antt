@@ -2,10 +2,10 @@
 use Prim.Native.Nat.{ℕ, _+_, _-_, _≤_, _<_}
 use mathlib.Core.Path.{_≡_, refl, ap, _∙_}
 use mathlib.Core.Bool.{false}
-use mathlib.Core.List.{List, _++_}
+use mathlib.Core.List.{List}
 use native.Mathlib.Nat.{le-refl}
 use native.Mathlib.Omega.{arith}
-use lib.ListN.{length, getD, take}
+use lib.ListN.{length, getD}
 use Rattle.method.specs.declared.Did.{Did}
 use Rattle.method.specs.declared.Did.the-variants.{Operation, Idle, Unwritten, Nobody}
 use Rattle.method.specs.declared.Run.{Run}
@@ -22,11 +22,12 @@ use Rattle.verdict.proofs.Judging.{none-is-bad}
 use Rattle.run.specs.Call.{readsUnwritten, firstUnwritten}
 use Rattle.run.proofs.Agree.{stepped-after, stops-first}
 use Rattle.text.specs.Sound.{GoodTurns}
-use Rattle.report.specs.Lines.{runLine, stockLine, stationLine, numbered}
-use Rattle.report.specs.Printed.{lines, report}
-use Rattle.report.specs.Put.{Put, countsIn}
-use Rattle.report.proofs.Laying.{put-then, put-same}
-use Rattle.report.proofs.Listed.{counts-rows}
+use Rattle.page.specs.Lines.{reportLines}
+use Rattle.page.specs.Put.{Put}
+use Rattle.page.proofs.Laying.{put-same}
+use Rattle.report.specs.Printed.{report}
+use Rattle.report.specs.Ready.{countsIn}
+use Rattle.report.proofs.Counting.{counts-rows}
 
 not-unwritten : (d : Did) → (d ≡ Unwritten → ⊥) → isUnwritten d ≡ false
 not-unwritten Operation h = refl
@@ -72,15 +73,14 @@ module _ (n : ℕ) (sets turns : List ℕ) (high : n ≤ 16) (sixteen : length s
       → length turns - counts ≡ idleTurns (fresh n sets) turns (length turns)
   idle-is start played counts s p q = let e = counts-and-idle start played counts s p q in omega arith
 
-  -- the three parts of the report
-  pub report-put : (page a b last : List ℕ) (p q r counts : ℕ) (codes : List (List ℕ)) (start : Run) (played : Played) → start ≡ fresh n sets → played ≡ playedOf start turns → counts ≡ countsIn (played .run .rows) n
-      → Put page 0 (runLine n (length turns) (length turns - counts)) a p → Put a p (numbered stockLine 0 codes) b q → Put b q (numbered stationLine 1 (take n (played .run .rows))) last r
-      → Put page 0 (report n sets codes turns) last r
-  unfolding report lines
-  report-put page a b last p q r counts codes start played s e c f g h =
+  -- the lines of what was played are the report
+  pub report-put : (page last : List ℕ) (r counts : ℕ) (codes : List (List ℕ)) (start : Run) (played : Played) → start ≡ fresh n sets → played ≡ playedOf start turns → counts ≡ countsIn (played .run .rows) n
+      → Put page 0 (reportLines n (length turns) (length turns - counts) codes (played .run .rows)) last r → Put page 0 (report n sets codes turns) last r
+  unfolding report
+  report-put page last r counts codes start played s e c f =
       let idle : length turns - counts ≡ idleTurns (fresh n sets) turns (length turns) = idle-is start played counts s e c in
       let made : played .run ≡ after (fresh n sets) turns (length turns) = ran start played s e in
       put-same
-      (ap (λ (i : ℕ). runLine n (length turns) i ++ numbered stockLine 0 codes ++ numbered stationLine 1 (take n (played .run .rows))) idle
-      ∙ ap (λ (x : Run). runLine n (length turns) (idleTurns (fresh n sets) turns (length turns)) ++ numbered stockLine 0 codes ++ numbered stationLine 1 (take n (x .rows))) made)
-      (put-then (put-then f g) h)
+      (ap (λ (i : ℕ). reportLines n (length turns) i codes (played .run .rows)) idle
+      ∙ ap (λ (x : Run). reportLines n (length turns) (idleTurns (fresh n sets) turns (length turns)) codes (x .rows)) made)
+      f

@@ -24,11 +24,11 @@ use Rattle.text.specs.declared.Fault.{Fault}
 use Rattle.text.specs.declared.Fault.the-variants.{LongText, NoGang, StrayByte, OtherWord, FewFields, NoStation, NoCode, MoreStocks, MoreTurns}
 use Rattle.text.specs.Refusal.{numberOf}
 use Rattle.text.specs.Plan.{Held, Reading, plan, refused, reading}
-use Rattle.report.specs.Digits.{decimal, width}
-use Rattle.report.specs.Lines.{RUN, STOCK, ST, NO, line, refusalLine, runLine, stockLine, setShown, stationLine, mostRun, mostStock, mostStation, numbered}
+use Rattle.page.specs.Digits.{decimal, width}
+use Rattle.page.specs.Lines.{RUN, STOCK, ST, NO, line, refusalLine, runLine, stockLine, setShown, stationLine, mostRun, mostStock, mostStation, numbered, reportLines}
 use Rattle.report.specs.declared.Printed.the-variants.{Whole}
-use Rattle.report.specs.Printed.{lines, report, reportOf, printed, mostPrinted, answerOf}
-use Rattle.report.proofs.Numerals.{digits-length, width-five}
+use Rattle.report.specs.Printed.{report, reportOf, printed, mostPrinted, answerOf}
+use Rattle.page.proofs.Numerals.{digits-length, width-five}
 use Rattle.text.specs.Sound.{Sound}
 use Rattle.text.proofs.Outcomes.{sound as plan-sound, place-most}
 
@@ -163,7 +163,7 @@ module _ (h : Held) (sound : Sound h) where
       station-most (1 + j) (getD (take (h .stations) (ends .rows)) j (notBegun 0)) (omega arith) (rw (getD-take (h .stations) (ends .rows) j (notBegun 0) k) (count-most j k)))
 
   pub report-most : length (report (h .stations) (h .stocks .sets) (h .stocks .codes) (h .turns)) ≤ mostPrinted
-  unfolding report lines
+  unfolding report reportLines
   report-most =
       let run = runLine (h .stations) turned (idleTurns (fresh (h .stations) (h .stocks .sets)) (h .turns) turned) in
       let stocks = numbered stockLine 0 (h .stocks .codes) in

@@ -1,5 +1,3 @@
--- What gangrun prints, as document 01 words it.
-pub mod Digits
-pub mod Lines
+-- From a plan's text to the printed text.
 pub mod Printed
-pub mod Put
+pub mod Ready

@@ -3,8 +3,7 @@ use Prim.Native.Nat.{ℕ, _+_, _*_}
 use mathlib.Core.Bool.{cond}
 use mathlib.Core.List.{List, _++_}
 use lib.Dec.{leb}
-use lib.ListN.{length, take, drop}
-use Rattle.method.specs.declared.Run.{Run}
+use lib.ListN.{length, drop}
 use Rattle.method.specs.Board.{fresh}
 use Rattle.method.specs.Turn.{after}
 use Rattle.method.specs.Demand.{idleTurns}
@@ -13,17 +12,12 @@ use Rattle.text.specs.Refusal.{numberOf}
 use Rattle.text.specs.Plan.{Reading, plan, refused, reading}
 use Rattle.report.specs.declared.Printed.{Printed}
 use Rattle.report.specs.declared.Printed.the-variants.{Whole, TooSmall}
-use Rattle.report.specs.Lines.{refusalLine, runLine, stockLine, stationLine, mostRun, mostStock, mostStation, numbered}
-
--- "`RUN`, n, turns, idle turns; then a `STOCK` line for each stock (number, code); then for each station `ST` .."
-unfoldable pub lines : ℕ → List (List ℕ) → ℕ → ℕ → Run → List ℕ
-lines n codes turns idle run =
-    runLine n turns idle ++ numbered stockLine 0 codes ++ numbered stationLine 1 (take n (run .rows))
+use Rattle.page.specs.Lines.{refusalLine, reportLines, mostRun, mostStock, mostStation}
 
 -- the report of n stations with these input sets, the stocks' codes and the turns
 unfoldable pub report : ℕ → List ℕ → List (List ℕ) → List ℕ → List ℕ
 report n sets codes turns =
-    lines n codes (length turns) (idleTurns (fresh n sets) turns (length turns)) (after (fresh n sets) turns (length turns))
+    reportLines n (length turns) (idleTurns (fresh n sets) turns (length turns)) codes (after (fresh n sets) turns (length turns) .rows)
 
 -- "Refused: one line, `NO`, number, place. Otherwise .."
 abbrev pub reportOf : Reading → List ℕ

@@ -6,10 +6,7 @@ pub enum Printed {
     TooSmall,
 }
 
-mod digits;
-mod fields;
-mod lines;
-mod listing;
+mod counts;
 
 // The one call: plan text to report text.
 pub mod whole;

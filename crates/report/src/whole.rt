@@ -1,49 +1,50 @@
 // From a plan's text to the printed text.
 ghost use mathlib.Core.Path.{_≡_};
 ghost use lib.ListN.{length};
-ghost use Rattle.report.specs.Printed.{report, printed, mostPrinted, answerOf, bufferOf};
-ghost use Rattle.report.specs.Put.{Put, Ready, codesFrom};
+ghost use Rattle.page.specs.Put.{Put, codesIn};
+ghost use Rattle.report.specs.Printed.{report, printed, answerOf, bufferOf};
+ghost use Rattle.report.specs.Ready.{Ready};
 use super::Printed;
-use super::fields::put_bytes;
-use super::lines::put_refusal;
-use super::lines::put_run;
-use super::listing::counted;
-use super::listing::put_stations;
-use super::listing::put_stocks;
+use super::counts::counted;
+use page::PAGE;
+use page::lines::put_refusal;
+use page::listing::put_report;
 use sets::limits::CELLS;
 use sets::limits::STATIONS;
 use sets::limits::STOCKS;
 use sets::limits::TURNS;
 use text::Answer;
 
-// Room for the longest report.
-pub const PAGE: usize = 2310;
-
 // The report of a plan that was read: it is run, and the lines are put into the page.
-fn put_report(
-    page: &mut [u8],
+fn put_run_of(
+    page: &mut [u8; PAGE],
     n: u8,
     sets: [u64; STATIONS],
     stocks: usize,
-    cells: &[u8],
-    lens: &[usize],
+    cells: &[u8; CELLS],
+    lens: &[usize; STOCKS],
     turns: &[u8],
 ) -> usize
-    requires { ⌜ Ready (now page) n sets stocks (now cells) (now lens) (now turns) ⌝ }
-    ensures { λ r. ⌜ Put (now (page .entry)) 0 (report n sets (codesFrom (now (cells .entry)) (now (lens .entry)) 0 stocks) (now (turns .entry))) (now (page .exit)) r ⌝ }
+    requires { ⌜ Ready n sets (now turns) ⌝ }
+    ensures { λ r. ⌜ Put (now (page .entry)) 0 (report n sets (codesIn (now (cells .entry)) (now (lens .entry)) stocks) (now (turns .entry))) (now (page .exit)) r ⌝ }
 {
-    let stations = n as usize;
     let played = turns::playing::play_out(board::start::fresh(n, sets), turns);
     let rows = played.run.rows;
-    let idle = turns.len() - counted(stations, rows);
-    let a = put_run(page, n as u16, turns.len() as u16, idle as u16);
-    let b = put_stocks(page, a, stocks, cells, lens);
-    put_stations(page, b, stations, rows)
+    let idle = turns.len() - counted(n as usize, rows);
+    put_report(
+        page,
+        n,
+        turns.len() as u16,
+        idle as u16,
+        stocks,
+        cells,
+        lens,
+        rows,
+    )
 }
 
 // The text that is printed of a plan's text, put into the page.
-fn put_printed(text: &[u8], page: &mut [u8]) -> usize
-    requires { ⌜ length (now page) ≡ mostPrinted ⌝ }
+fn put_printed(text: &[u8], page: &mut [u8; PAGE]) -> usize
     ensures { λ r. ⌜ Put (now (page .entry)) 0 (printed (now (text .entry))) (now (page .exit)) r ⌝ }
 {
     let mut sets = [0u64; STATIONS];
@@ -56,7 +57,7 @@ fn put_printed(text: &[u8], page: &mut [u8]) -> usize
             stations: n,
             stocks: s,
             turns: t,
-        } => put_report(page, n, sets, s, &cells, &lens, &turns[..t]),
+        } => put_run_of(page, n, sets, s, &cells, &lens, &turns[..t]),
         Answer::Refused { fault, place } => {
             put_refusal(page, text::number_of(fault) as u16, place as u16)
         }
@@ -71,7 +72,7 @@ fn hand_out(text: &[u8], out: &mut [u8]) -> Printed
     if out.len() < text.len() {
         return Printed::TooSmall;
     }
-    put_bytes(out, 0, text);
+    bytes::copy(text, out);
     Printed::Whole(text.len())
 }
 

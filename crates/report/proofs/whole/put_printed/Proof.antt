@@ -2,25 +2,25 @@ use mathlib.Core.Path.{_≡_, sym}
 use Rattle.text.specs.Refusal.{numberOf}
 use Rattle.text.specs.Plan.{refused, reading}
 use Rattle.text.specs.declared.Fault.{Fault}
-use Rattle.report.specs.Lines.{refusalLine}
+use Rattle.page.specs.Lines.{refusalLine}
 use Rattle.report.specs.Printed.{printed}
-use Rattle.report.proofs.Laying.{put-same}
-use Rattle.report.proofs.Printing.{ReadOff, read-off, cells-long, lens-long, turns-long, prefix-long, ready, report-is, refused-off, refusal-is, place-small}
+use Rattle.page.proofs.Laying.{put-same}
+use Rattle.report.proofs.Printing.{ReadOff, read-off, turns-long, prefix-long, ready, report-is, refused-off, refusal-is, place-small}
 use borrow.Author.Needs.{needs}
 use Rattle.report.proofs.whole.put_printed.Statement.{statement}
 use Rattle.report.proofs.whole.put_printed.Tie as tie
 
-off : (c : tie.After-answer) → ReadOff (c .before .before .before .before .before .before .before .before .before .args .text .now) (c .answer .given .0 .0) (c .answer .given .0 .1 .0) (c .answer .given .0 .1 .1 .0)
+off : (c : tie.After-answer) → ReadOff (c .before .before .before .before .before .before .before .before .args .text .now) (c .answer .given .0 .0) (c .answer .given .0 .1 .0) (c .answer .given .0 .1 .1 .0)
     (c .before .before .read-plan .last .1 .0) (c .before .before .read-plan .last .1 .1 .0) (c .before .before .read-plan .last .1 .1 .1 .0) (c .before .before .read-plan .last .1 .1 .1 .1 .0)
 off c =
     let e = c .before .before .read-plan .ensures in
     let r = c .answer .given in
     read-off _ (c .before .before .read-plan .result) (r .0 .0) (r .0 .1 .0) (r .0 .1 .1 .0) _ _ _ _ _ _ _ _ (r .1) (e .0) (e .1 .0) (e .1 .1 .0) (e .1 .1 .1 .0) (e .1 .1 .1 .1)
 
-why : (c : tie.After-answer2) → (f : Fault) × (reading (c .before .before .before .before .before .before .before .before .before .args .text .now) ≡ refused f (c .answer2 .given .0 .1 .0)) × (numberOf (c .answer2 .given .0 .0) ≡ numberOf f)
+why : (c : tie.After-answer2) → (f : Fault) × (reading (c .before .before .before .before .before .before .before .before .args .text .now) ≡ refused f (c .answer2 .given .0 .1 .0)) × (numberOf (c .answer2 .given .0 .0) ≡ numberOf f)
 why c = refused-off _ (c .before .before .read-plan .result) (c .answer2 .given .0 .0) (c .answer2 .given .0 .1 .0) (c .answer2 .given .1) (c .before .before .read-plan .ensures .0)
 
-no-line : (c : tie.After-number-of) → refusalLine (c .number-of .result) (c .before .before .before .answer2 .given .0 .1 .0) ≡ printed (c .before .before .before .before .before .before .before .before .before .before .before .before .args .text .now)
+no-line : (c : tie.After-number-of) → refusalLine (c .number-of .result) (c .before .before .before .answer2 .given .0 .1 .0) ≡ printed (c .before .before .before .before .before .before .before .before .before .before .before .args .text .now)
 no-line c = let r = why (c .before .before .before) in refusal-is _ (c .before .before .before .answer2 .given .0 .0) (r .0) _ _ (r .1) (r .2) (c .number-of .ensures)
 
 read-plan-requires : tie.Need-read-plan-requires
@@ -29,20 +29,14 @@ read-plan-requires c κs = search needs
 enum-known-answer : tie.Need-enum-known-answer
 enum-known-answer c = search needs
 
-slice-aggregate-put-report : tie.Need-slice-aggregate-put-report
-slice-aggregate-put-report c = sym (cells-long (off (c .before .before .before)))
-
-slice-aggregate-put-report-2 : tie.Need-slice-aggregate-put-report-2
-slice-aggregate-put-report-2 c = sym (lens-long (off (c .before .before .before .before)))
-
 array-share-prefix-turns : tie.Need-array-share-prefix-turns
 array-share-prefix-turns c = turns-long (off (c .before .before .before .before))
 
-slice-aggregate-put-report-3 : tie.Need-slice-aggregate-put-report-3
-slice-aggregate-put-report-3 c = prefix-long (off (c .before .before .before .before .before))
+slice-aggregate-put-run-of : tie.Need-slice-aggregate-put-run-of
+slice-aggregate-put-run-of c = prefix-long (off (c .before .before .before .before .before))
 
-put-report-requires : tie.Need-put-report-requires
-put-report-requires c κs = ready (off (c .before .before .before .before .before)) _ (c .before .before .before .before .before .before .before .before .before .before .before .before .before .before .pre)
+put-run-of-requires : tie.Need-put-run-of-requires
+put-run-of-requires c κs = ready (off (c .before .before .before .before .before))
 
 enum-known-answer-2 : tie.Need-enum-known-answer-2
 enum-known-answer-2 c = search needs
@@ -59,17 +53,11 @@ cast-put-refusal-2 c = let r = why (c .before .before .before) in record { fits 
 put-refusal-requires : tie.Need-put-refusal-requires
 put-refusal-requires c κs = search needs
 
-same-length : tie.Need-same-length
-same-length c = search needs
-
 returns : tie.Need-returns
-returns c = put-same (report-is (off (c .before .before .before .before .before .before .before .before))) (c .before .before .put-report .ensures)
-
-same-length-2 : tie.Need-same-length-2
-same-length-2 c = search needs
+returns c = put-same (report-is (off (c .before .before .before .before .before .before))) (c .put-run-of .ensures)
 
 returns-2 : tie.Need-returns-2
-returns-2 c = put-same (no-line (c .before .before .before)) (c .before .before .put-refusal .ensures)
+returns-2 c = put-same (no-line (c .before)) (c .put-refusal .ensures)
 
 pub put-printed-spec : {M : Type 1} → statement M
 put-printed-spec =
@@ -77,17 +65,13 @@ put-printed-spec =
     (tie.spec
     read-plan-requires
     enum-known-answer
-    slice-aggregate-put-report
-    slice-aggregate-put-report-2
     array-share-prefix-turns
-    slice-aggregate-put-report-3
-    put-report-requires
+    slice-aggregate-put-run-of
+    put-run-of-requires
     enum-known-answer-2
     number-of-requires
     cast-put-refusal
     cast-put-refusal-2
     put-refusal-requires
-    same-length
     returns
-    same-length-2
     returns-2)
