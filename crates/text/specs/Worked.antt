@@ -37,6 +37,7 @@ case t s = record { text = t; gives = s }
 cases : List Case
 cases =
     case "GANG\t2\nHAS\t1\tKR90\nHAS\t2\tKR90  \tSB70\nTURN\t1\t1\t2\n" (taken 2 (bytes "KR90" ∷ bytes "SB70" ∷ []) (1 ∷ 3 ∷ 0 ∷ []) (1 ∷ 1 ∷ 2 ∷ []))
+    ∷ case "GANG\t2\nHAS\t1\tA\nHAS\t2\tB\nHAS\t1\tB" (taken 2 (bytes "A" ∷ bytes "B" ∷ []) (3 ∷ 2 ∷ 0 ∷ []) [])
     ∷ case "GANG\t1\nHAS\t1\tABCDEFGHIJKL" (taken 1 (bytes "ABCDEFGHIJKL" ∷ []) (1 ∷ 0 ∷ 0 ∷ []) [])
     ∷ case "GANG\t1\nHAS\t1\tABCDEFGHIJKLM" (NO 17 2)
     ∷ case "GANG\t1\nHAS\t1\t " (NO 17 2)
