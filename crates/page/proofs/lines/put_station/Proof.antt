@@ -7,23 +7,17 @@ use Rattle.page.proofs.lines.put_station.Tie as tie
 shown-of-requires : tie.Need-shown-of-requires
 shown-of-requires c κs = search needs
 
-slice-aggregate-put-bytes : tie.Need-slice-aggregate-put-bytes
-slice-aggregate-put-bytes c = search needs
+slice-aggregate-put-pair : tie.Need-slice-aggregate-put-pair
+slice-aggregate-put-pair c = search needs
 
-put-bytes-requires : tie.Need-put-bytes-requires
-put-bytes-requires c κs = search needs
+cast-put-pair : tie.Need-cast-put-pair
+cast-put-pair c = search needs
+
+put-pair-requires : tie.Need-put-pair-requires
+put-pair-requires c κs = search needs
 
 put-number-requires : tie.Need-put-number-requires
 put-number-requires c κs = search needs
-
-cast-put-number : tie.Need-cast-put-number
-cast-put-number c = search needs
-
-put-number-requires-2 : tie.Need-put-number-requires-2
-put-number-requires-2 c κs = search needs
-
-put-number-requires-3 : tie.Need-put-number-requires-3
-put-number-requires-3 c κs = search needs
 
 put-set-requires : tie.Need-put-set-requires
 put-set-requires c κs = search needs
@@ -40,13 +34,10 @@ returns c =
     let fifth = sixth .before .before .before .before in
     let fourth = fifth .before .before .before .before in
     let third = fourth .before .before .before .before in
-    let second = third .before .before .before .before .before in
-    let first = second .before .before .before .before in
-    let told = first .before .before .before .before in
+    let told = third .before .before .before .before .before in
     let a = told .before .before .args in (
-      station-put _ _ _ _ _ _ _ _ _ _ _ _ _ _ (a .i) (a .row) (told .shown-of .result) (told .shown-of .ensures)
-          (first .put-bytes .ensures) (second .put-number .ensures .0) (third .put-number2 .ensures .0) (fourth .put-number3 .ensures .0) (fifth .put-set .ensures .0) (sixth .put-set2 .ensures .0),
-      omega (arith, first .put-bytes .ensures .moved, second .put-number .ensures .1, third .put-number2 .ensures .1, fourth .put-number3 .ensures .1, fifth .put-set .ensures .1, sixth .put-set2 .ensures .1),
+      station-put _ _ _ _ _ _ _ _ _ _ (a .i) (a .row) (told .shown-of .result) (told .shown-of .ensures) (third .put-pair .ensures .0) (fourth .put-number .ensures .0) (fifth .put-set .ensures .0) (sixth .put-set2 .ensures .0),
+      omega (arith, third .put-pair .ensures .1, fourth .put-number .ensures .1, fifth .put-set .ensures .1, sixth .put-set2 .ensures .1),
     )
 
 pub put-station-spec : {M : Type 1} → statement M
@@ -54,12 +45,10 @@ put-station-spec =
     tie.close
     (tie.spec
     shown-of-requires
-    slice-aggregate-put-bytes
-    put-bytes-requires
+    slice-aggregate-put-pair
+    cast-put-pair
+    put-pair-requires
     put-number-requires
-    cast-put-number
-    put-number-requires-2
-    put-number-requires-3
     put-set-requires
     put-set-requires-2
     same-length
