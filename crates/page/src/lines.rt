@@ -33,7 +33,7 @@ pub fn put_refusal(page: &mut [u8; PAGE], number: u16, place: u16) -> usize
 }
 
 // `RUN`, n, turns, idle turns.
-pub fn put_run(page: &mut [u8], n: u16, turns: u16, idle: u16) -> usize
+pub(super) fn put_run(page: &mut [u8], n: u16, turns: u16, idle: u16) -> usize
     requires { ⌜ mostRun ≤ length (now page) ⌝ }
     ensures { λ r. ⌜ Put (now (page .entry)) 0 (runLine n turns idle) (now (page .exit)) r ⌝ }
     ensures { λ r. ⌜ r ≤ mostRun ⌝ }
@@ -43,7 +43,7 @@ pub fn put_run(page: &mut [u8], n: u16, turns: u16, idle: u16) -> usize
 }
 
 // `STOCK`, number, code.
-pub fn put_stock(page: &mut [u8], at: usize, k: u16, code: &[u8]) -> usize
+pub(super) fn put_stock(page: &mut [u8], at: usize, k: u16, code: &[u8]) -> usize
     requires { ⌜ (at + mostStock ≤ length (now page)) × (length (now code) ≤ mostCode) ⌝ }
     ensures { λ r. ⌜ Put (now (page .entry)) at (stockLine k (now (code .entry))) (now (page .exit)) r ⌝ }
     ensures { λ r. ⌜ r ≤ at + mostStock ⌝ }
@@ -55,7 +55,7 @@ pub fn put_stock(page: &mut [u8], at: usize, k: u16, code: &[u8]) -> usize
 }
 
 // `ST`, number, state, count, stations set, stocks set.
-pub fn put_station(page: &mut [u8], at: usize, i: u16, row: Row) -> usize
+pub(super) fn put_station(page: &mut [u8], at: usize, i: u16, row: Row) -> usize
     requires { ⌜ at + mostStation ≤ length (now page) ⌝ }
     ensures { λ r. ⌜ Put (now (page .entry)) at (stationLine i row) (now (page .exit)) r ⌝ }
     ensures { λ r. ⌜ r ≤ at + mostStation ⌝ }
