@@ -21,7 +21,6 @@ use Rattle.page.specs.Put.{Put, codesFrom, codesIn}
 use Rattle.report.specs.Ready.{Ready}
 use Rattle.text.specs.Sound.{Sound}
 use Rattle.text.proofs.Outcomes.{sound as plan-sound, place-most}
-use Rattle.report.proofs.Running.{all-stations}
 use Rattle.report.proofs.Handing.{put-front}
 use Rattle.report.proofs.Sizes.{printed-most}
 
@@ -126,7 +125,7 @@ module _ {text : List ℕ} {n stocks turned : ℕ} {sets cells lens turns : List
         high = rw (← r .stations) (sound .most);
         sets-long = ap length (r .sets-are) ∙ sound .stocks .sets;
         few = rw turns-back (sound .turns .most);
-        named = rw (turns-back, ← r .stations) (all-stations (sound .turns));
+        named = rw (turns-back, ← r .stations) (sound .turns .named);
       }
 
   pub report-is : report n sets (codesIn cells lens stocks) (take turned turns) ≡ printed text

@@ -21,7 +21,6 @@ use Rattle.verdict.specs.Refusals.{firstBad}
 use Rattle.verdict.proofs.Judging.{none-is-bad}
 use Rattle.run.specs.Call.{readsUnwritten, firstUnwritten}
 use Rattle.run.proofs.Agree.{stepped-after, stops-first}
-use Rattle.text.specs.Sound.{GoodTurns}
 use Rattle.page.specs.Lines.{reportLines}
 use Rattle.page.specs.Put.{Put}
 use Rattle.page.proofs.Laying.{put-same}
@@ -34,10 +33,6 @@ not-unwritten Operation h = refl
 not-unwritten Idle h = refl
 not-unwritten Unwritten h = absurd (h refl)
 not-unwritten Nobody h = refl
-
--- every turn of a plan that was taken names a station
-pub all-stations : {n : ℕ} {turns : List ℕ} → GoodTurns n turns → (t : ℕ) → t < length turns → Station n (getD turns t 0)
-all-stations p t l = record { low = p .least t l; high = p .within t l }
 
 module _ (n : ℕ) (sets turns : List ℕ) (high : n ≤ 16) (sixteen : length sets ≡ 16) (few : length turns ≤ 4096) (named : (t : ℕ) → t < length turns → Station n (getD turns t 0)) where
   fits : Fits levels registers n sets

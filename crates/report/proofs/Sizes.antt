@@ -16,7 +16,6 @@ use Rattle.method.specs.Board.{levels, registers, fresh, notBegun, rowOf}
 use Rattle.method.specs.Turn.{after}
 use Rattle.method.specs.Demand.{Fits, isSettled, idleTurns}
 use Rattle.method.proofs.Demand3.{fits-board, counts-add-up, count-within}
-use Rattle.report.proofs.Running.{all-stations}
 use Rattle.answer.specs.Answer.{shownOf}
 use Rattle.text.specs.Limits.{mostCode}
 use Rattle.text.specs.Text.{LF, tab}
@@ -135,7 +134,7 @@ module _ (h : Held) (sound : Sound h) where
   idle-most : idleTurns (fresh (h .stations) (h .stocks .sets)) (h .turns) turned < 100000
   unfolding fresh
   idle-most =
-      let a = counts-add-up fits (h .turns) turned (all-stations (sound .turns)) in
+      let a = counts-add-up fits (h .turns) turned (sound .turns .named) in
       let f = sound .turns .most in
       omega arith
 

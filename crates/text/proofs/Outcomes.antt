@@ -14,6 +14,7 @@ use lib.Dec.{leb, ltb, eqb}
 use lib.Pow.{pow-mono, pow-lt}
 use lib.Bits.{or-lt}
 use borrow.Author.Tests.{ltb-true, ltb-false, leb-true, eqb-true, eqb-false}
+use Rattle.method.specs.Demand.{Station}
 use Rattle.text.specs.Limits.{mostBytes, mostStations, mostStocks, mostTurns, mostCode}
 use Rattle.text.specs.Text.{LF, space, joined, parted, linesOf, fieldsOf, all, fine, run, runMore, same}
 use Rattle.text.specs.Number.{empty, numberTo}
@@ -56,16 +57,13 @@ each-holds P step h (f ∷ fs) a p = then-holds P P (step a f) (λ b. each step 
 
 -- ---- stations and turns
 
-Station : ℕ → ℕ → Type 0
-Station n i = (1 ≤ i) × (i ≤ n)
-
 station-holds : (n : ℕ) (f : List ℕ) → Holds (Station n) (station n f)
-unfolding station Station numberOf
+unfolding station numberOf
 station-holds n f = by-cases (numberTo n f) (number-most n f)
   where
     by-cases : (i : ℕ) → i ≤ n → Holds (Station n) (stationIn i)
     by-cases zero h = (omega arith, omega arith)
-    by-cases (suc i) h = (omega arith, h)
+    by-cases (suc i) h = record { low = omega arith; high = h }
 
 snoc-length : {A : Type 0} (l : List A) (x : A) → length (l ++ (x ∷ [])) ≡ length l + 1
 snoc-length l x = length-append l (x ∷ [])
@@ -82,7 +80,7 @@ snoc-each {A} d P l x h p j m =
     (eq-or-lt-of-le b)
 
 turn-holds : (n : ℕ) (ts f : List ℕ) → GoodTurns n ts → Holds (GoodTurns n) (takeTurn n ts f)
-unfolding takeTurn Station numberOf
+unfolding takeTurn numberOf
 turn-holds n ts f g =
     then-holds (Station n) (GoodTurns n) (station n f) (λ i. cond (ltb (length ts) mostTurns) (taken (ts ++ (i ∷ []))) (no MoreTurns)) (station-holds n f)
     (λ i s. cond-holds (GoodTurns n) (ltb (length ts) mostTurns) (taken (ts ++ (i ∷ []))) (no MoreTurns)
@@ -91,8 +89,7 @@ turn-holds n ts f g =
     let e : length (ts ++ (i ∷ [])) ≡ length ts + 1 = snoc-length ts i in
     record {
       most = omega arith;
-      least = snoc-each 0 (λ x. 1 ≤ x) ts i (g .least) (s .0);
-      within = snoc-each 0 (λ x. x ≤ n) ts i (g .within) (s .1);
+      named = snoc-each 0 (Station n) ts i (g .named) s;
     })
     (λ t. (omega arith, omega arith)))
 
@@ -213,7 +210,7 @@ sets-known sets i v m m′ inside hv wider all-of j = by-cases (eqb j i) refl
     by-cases false e = subst (λ (x : ℕ). x < 2 ^ m′) (sym (getD-set-other sets i j v 0 (eqb-false j i e))) (lt-of-lt-of-le (all-of j) (pow-mono wider))
 
 has-holds : (n : ℕ) (s : Stocked) (fs : List (List ℕ)) → n ≤ mostStations → GoodStocks s → Holds GoodStocks (hasLine n s fs)
-unfolding hasLine numberOf Station
+unfolding hasLine numberOf
 has-holds n s [] h g = (omega arith, omega arith)
 has-holds n s (f ∷ []) h g = (omega arith, omega arith)
 has-holds n s (f ∷ c ∷ cs) h g =
@@ -221,7 +218,7 @@ has-holds n s (f ∷ c ∷ cs) h g =
     (λ i st.
     let start : Holding = holding (s .codes) (getD (s .sets) (i - 1) 0) in
     let size : length (s .sets) ≡ mostStations = g .sets in
-    let inside : i - 1 < length (s .sets) = let a : 1 ≤ i = st .0 in let b : i ≤ n = st .1 in omega arith in
+    let inside : i - 1 < length (s .sets) = let a = st .low in let b = st .high in omega arith in
     then-holds (Grown (length (s .codes))) GoodStocks (each takeCode start (c ∷ cs)) _
     (each-holds (Grown (length (s .codes))) takeCode (take-holds (length (s .codes))) (c ∷ cs) start (record { codes = g .codes; known = g .known (i - 1); grown = omega arith }))
     (λ t r.
@@ -267,7 +264,7 @@ fresh-sound n a b =
             sets = length-replicate {A = ℕ} mostStations 0;
             known = λ i. let z : _≡_ {A = ℕ} (getD (replicate mostStations 0) i 0) 0 = zeros-at mostStations i in omega arith;
           };
-      turns = record { most = zero-le; least = λ j h. absurd (omega arith); within = λ j h. absurd (omega arith) };
+      turns = record { most = zero-le; named = λ t h. absurd (omega arith) };
     }
 
 pub gang-most : (fs : List (List ℕ)) → gangOf fs ≤ mostStations

@@ -5,6 +5,7 @@ use mathlib.Core.Bool.{Bool, false}
 use mathlib.Core.List.{List, [], _∷_}
 use lib.ListN.{length, getD}
 use lib.Dec.{eqb}
+use Rattle.method.specs.Demand.{Station}
 use Rattle.text.specs.Limits.{mostStations, mostStocks, mostTurns, mostCode}
 use Rattle.text.specs.Text.{space, linesOf}
 use Rattle.text.specs.Refusal.{numberOf}
@@ -37,8 +38,7 @@ pub record GoodStocks (s : Stocked) : Type 0 where
 -- the turns: each is a station
 pub record GoodTurns (n : ℕ) (ts : List ℕ) : Type 0 where
   pub most : length ts ≤ mostTurns
-  pub least : (j : ℕ) → j < length ts → 1 ≤ getD ts j 0
-  pub within : (j : ℕ) → j < length ts → getD ts j 0 ≤ n
+  pub named : (t : ℕ) → t < length ts → Station n (getD ts t 0)
 
 pub record Sound (h : Held) : Type 0 where
   pub some : 1 ≤ h .stations
