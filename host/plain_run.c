@@ -1,7 +1,11 @@
-/* The run call once more, plainly: written from document 01 alone, to compare with. It shares nothing with the library. */
+/* The run call once more, plainly: written from the rules alone (docs/MODEL.md, 2 to 7), to compare with. It shares nothing with the library
+   but the names of the limits, by which its arrays are made. */
+#include "gang.h"
 #include "plain.h"
 
 #include <string.h>
+
+#define LEVELS 4
 
 enum phase { POST, BRING, READ, HELP, GATHER, REST };
 
@@ -17,10 +21,10 @@ struct station {
 
 struct hall {
     int n, depth;
-    uint64_t reg[5][17]; /* level from 1, place in the row from 1 */
-    uint64_t line[17];
-    int written[17];
-    struct station st[17];
+    uint64_t reg[LEVELS + 1][GANG_MOST_STATIONS + 1]; /* level from 1, place in the row from 1 */
+    uint64_t line[GANG_MOST_STATIONS + 1];
+    int written[GANG_MOST_STATIONS + 1];
+    struct station st[GANG_MOST_STATIONS + 1];
 };
 
 static int size(uint64_t s) { return __builtin_popcountll(s); }
@@ -145,21 +149,21 @@ static void put(uint8_t *b, uint64_t x, int bytes)
 uint32_t plain_run(uint64_t n, const uint8_t *inputs, size_t input_bytes, const uint8_t *turns, size_t turn_bytes, uint8_t *answer, size_t answer_bytes)
 {
     struct hall h;
-    if (n == 0 || n > 16) return 1;
-    if (input_bytes != 8 * n) return 2;
-    if (turn_bytes > 4096) return 3;
+    if (n == 0 || n > GANG_MOST_STATIONS) return 1;
+    if (input_bytes != GANG_INPUT_BYTES * n) return 2;
+    if (turn_bytes > GANG_MOST_TURNS) return 3;
     for (size_t t = 0; t < turn_bytes; t++)
         if (turns[t] == 0 || turns[t] > n) return (uint32_t)(4 + 100 * t);
-    if (answer_bytes < 20 * n) return 5;
+    if (answer_bytes < GANG_ROW_BYTES * n) return 5;
     memset(&h, 0, sizeof h);
     h.n = (int)n;
     while (1u << h.depth < n) h.depth++;
-    for (int i = 1; i <= h.n; i++) h.st[i].stocks = word(inputs + 8 * (i - 1));
+    for (int i = 1; i <= h.n; i++) h.st[i].stocks = word(inputs + GANG_INPUT_BYTES * (i - 1));
     for (size_t t = 0; t < turn_bytes; t++)
         if (!turn(&h, turns[t])) return (uint32_t)(6 + 100 * t);
     for (int i = 1; i <= h.n; i++) {
         struct station *s = &h.st[i];
-        uint8_t *row = answer + 20 * (i - 1);
+        uint8_t *row = answer + GANG_ROW_BYTES * (i - 1);
         int settled = s->phase == REST;
         row[0] = s->phase == POST ? 0 : settled ? 2 : 1;
         row[1] = 0;

@@ -1,7 +1,7 @@
 /* Compares the proved reader with the plain one: on random plans, half of them damaged, and on the vectors where they are given.
-   plan_check SEED COUNT [VECTORS]    compares, and says how many were taken and how often each refusal was given
-   plan_check figure WHICH            reads one text of 32,768 bytes with 4,096 turns, by the reader `ours` or `plain`, for callgrind */
-#include "plan.h"
+   plan_check SEED COUNT [FILE ..]    compares, and says how many were taken and how often each refusal was given
+   plan_check figure WHICH            reads one text, as long as may be and with as many turns, by the reader `ours` or `plain`, for callgrind */
+#include "gang.h"
 #include "plan_plain.h"
 
 #include <stdio.h>
@@ -16,7 +16,7 @@ static unsigned draw(unsigned below)
     return (unsigned)((seed >> 33) % below);
 }
 
-static unsigned char text[40000];
+static unsigned char text[GANG_MOST_TEXT_BYTES + 8000];
 static size_t size;
 
 static void put(const char *s)
@@ -42,7 +42,7 @@ static void put_code(unsigned kinds)
     unsigned k = draw(kinds);
     snprintf(s, sizeof s, "%s%u", front[k % 6], k);
     put(s);
-    for (unsigned pad = draw(4) ? 0 : draw(5); pad > 0 && strlen(s) < 12; pad--) {
+    for (unsigned pad = draw(4) ? 0 : draw(5); pad > 0 && strlen(s) < GANG_MOST_CODE_BYTES; pad--) {
         put(" ");
         strcat(s, " ");
     }
@@ -50,7 +50,7 @@ static void put_code(unsigned kinds)
 
 static void make_plan(void)
 {
-    unsigned n = 1 + draw(16), lines = draw(12), kinds = draw(8) ? 1 + draw(60) : 120, wide = draw(10) ? 12 : 700;
+    unsigned n = 1 + draw(GANG_MOST_STATIONS), lines = draw(12), kinds = draw(8) ? 1 + draw(60) : 120, wide = draw(10) ? 12 : 700;
     size = 0;
     put("GANG\t");
     put_number(n);
@@ -113,21 +113,21 @@ static void damage(void)
         switch (draw(4)) {
         case 0: /* too long, or as long as may be */
             put("\nTURN\t1");
-            while (size < 32766 + draw(6))
+            while (size < GANG_MOST_TEXT_BYTES - 2 + draw(6))
                 put("\t1");
             break;
-        case 1: /* 4,095 to 4,098 turns in one line */
+        case 1: /* in one line as many turns as may be, one less, one more or two more */
             size = 0;
             put("GANG\t3\nTURN\t3");
-            for (unsigned t = 4094 + draw(4); t > 0; t--)
+            for (unsigned t = GANG_MOST_TURNS - 2 + draw(4); t > 0; t--)
                 put("\t2");
             if (draw(2))
                 put("\nTURN\t4");
             break;
-        case 2: /* 63 to 66 stocks in one line */
+        case 2: /* the same of stocks */
             size = 0;
             put("GANG\t2\nHAS\t2\tA");
-            for (unsigned c = 62 + draw(4); c > 0; c--) {
+            for (unsigned c = GANG_MOST_STOCKS - 2 + draw(4); c > 0; c--) {
                 put("\tB");
                 put_number(c);
             }
@@ -141,151 +141,173 @@ static void damage(void)
     }
 }
 
-static unsigned long given[20];
+static unsigned long given[GANG_MORE_TURNS + 1];
 
-static int compare(const unsigned char *t, size_t n)
+/* All that a call may write, one behind the other, and bytes behind it. */
+struct lent {
+    uint64_t sets[GANG_MOST_STATIONS];
+    uint8_t codes[GANG_CODES_BYTES];
+    size_t lens[GANG_MOST_STOCKS];
+    uint8_t turns[GANG_MOST_TURNS];
+    size_t told[GANG_TOLD];
+    uint8_t behind[64];
+};
+
+/* What the lent bytes hold after a plan that is taken. */
+static void hand_out(const struct plain_plan *plan, struct lent *l)
 {
-    static uint64_t sets[16];
-    static unsigned char codes[768], turns[4096], cells[768];
-    static size_t lens[64], told[3];
-    static struct plain_plan plan;
-    size_t place;
-    unsigned want = plain_read(t, n, &plan, &place), got;
-    memset(sets, 0xee, sizeof sets);
-    memset(codes, 0xee, sizeof codes);
-    memset(lens, 0xee, sizeof lens);
-    memset(turns, 0xee, sizeof turns);
-    got = plan_read(t, n, sets, codes, lens, turns, told);
-    given[want]++;
-    if (got != want)
-        return 0;
-    if (want != 0) {
-        for (unsigned i = 0; i < sizeof sets; i++)
-            if (((unsigned char *)sets)[i] != 0xee)
-                return 0;
-        for (unsigned i = 0; i < sizeof codes; i++)
-            if (codes[i] != 0xee)
-                return 0;
-        for (unsigned i = 0; i < sizeof lens; i++)
-            if (((unsigned char *)lens)[i] != 0xee)
-                return 0;
-        for (unsigned i = 0; i < sizeof turns; i++)
-            if (turns[i] != 0xee)
-                return 0;
-        return told[0] == place && told[1] == 0 && told[2] == 0;
+    memcpy(l->sets, plan->set, sizeof l->sets);
+    memset(l->codes, 0, sizeof l->codes);
+    for (unsigned k = 0; k < GANG_MOST_STOCKS; k++) {
+        memcpy(l->codes + GANG_MOST_CODE_BYTES * k, plan->code[k], plan->length[k]);
+        l->lens[k] = plan->length[k];
     }
-    memset(cells, 0, sizeof cells);
-    for (unsigned k = 0; k < 64; k++) {
-        memcpy(cells + 12 * k, plan.code[k], 12);
-        if (lens[k] != plan.length[k])
-            return 0;
-    }
-    return told[0] == plan.stations && told[1] == plan.stocks && told[2] == plan.turns && memcmp(sets, plan.set, sizeof sets) == 0
-           && memcmp(codes, cells, sizeof codes) == 0 && memcmp(turns, plan.turn, sizeof turns) == 0;
+    memcpy(l->turns, plan->turn, sizeof l->turns);
+    l->told[GANG_TOLD_STATIONS] = plan->stations;
+    l->told[GANG_TOLD_STOCKS] = plan->stocks;
+    l->told[GANG_TOLD_TURNS] = plan->turns;
 }
 
-/* The vectors: a plan and its report, each after its length in 4 bytes. Only the report's first line and its stocks concern the reader. */
-static int compare_vectors(const char *name)
+/* The number returned and every lent byte are those of the plain reading; a refusal leaves all of them as they were. */
+static int compare(const unsigned char *t, size_t n)
 {
-    FILE *f = fopen(name, "rb");
-    unsigned char head[4];
-    unsigned long count = 0;
-    if (f == NULL) {
-        printf("no vectors\n");
-        return 1;
-    }
-    while (fread(head, 1, 4, f) == 4) {
-        size_t n = head[0] | head[1] << 8 | head[2] << 16 | (size_t)head[3] << 24, m, place;
-        unsigned char *plan_text = malloc(n + 1), *report;
-        static struct plain_plan plan;
-        char want[64];
-        unsigned no;
-        if (fread(plan_text, 1, n, f) != n || fread(head, 1, 4, f) != 4)
-            return 0;
-        m = head[0] | head[1] << 8 | head[2] << 16 | (size_t)head[3] << 24;
-        report = malloc(m + 1);
-        if (fread(report, 1, m, f) != m)
-            return 0;
-        report[m] = 0;
-        if (!compare(plan_text, n)) {
-            printf("vector %lu: the readers differ\n", count);
-            return 0;
-        }
-        no = plain_read(plan_text, n, &plan, &place);
-        if (no != 0)
-            snprintf(want, sizeof want, "NO\t%u\t%zu\n", no, place);
-        else
-            snprintf(want, sizeof want, "RUN\t%u\t%u\t", plan.stations, plan.turns);
-        if (strncmp((char *)report, want, strlen(want)) != 0) {
-            printf("vector %lu: not as reported\n", count);
-            return 0;
-        }
-        for (unsigned k = 0; no == 0 && k < plan.stocks; k++) {
-            snprintf(want, sizeof want, "\nSTOCK\t%u\t%.*s\n", k, (int)plan.length[k], plan.code[k]);
-            if (strstr((char *)report, want) == NULL) {
-                printf("vector %lu: stock %u not as reported\n", count, k);
-                return 0;
-            }
-        }
-        free(plan_text);
-        free(report);
-        count++;
-    }
-    fclose(f);
-    printf("%lu vectors alike\n", count);
+    static struct lent ours, plainly;
+    static struct plain_plan plan;
+    size_t place;
+    unsigned no = plain_read(t, n, &plan, &place);
+    memset(&ours, 0xee, sizeof ours);
+    memset(&plainly, 0xee, sizeof plainly);
+    if (no == 0)
+        hand_out(&plan, &plainly);
+    given[no]++;
+    return gang_read_plan(t, n, ours.sets, ours.codes, ours.lens, ours.turns, ours.told) == no + 100 * place
+           && memcmp(&ours, &plainly, sizeof ours) == 0;
+}
+
+static int four(FILE *f, size_t *n)
+{
+    unsigned char b[4];
+    if (fread(b, 1, 4, f) != 4)
+        return 0;
+    *n = b[0] | b[1] << 8 | b[2] << 16 | (size_t)b[3] << 24;
     return 1;
 }
 
-/* 32,768 bytes with 4,096 turns; HAS lines with codes of 60 stocks and one more fill what the turns leave. */
+/* Some bytes behind their length, with a 0 after them. */
+static unsigned char *some(FILE *f, size_t *n)
+{
+    unsigned char *b = NULL;
+    if (!four(f, n))
+        return NULL;
+    b = malloc(*n + 1);
+    if (fread(b, 1, *n, f) != *n) {
+        free(b);
+        return NULL;
+    }
+    b[*n] = 0;
+    return b;
+}
+
+/* Of a report its first line and its stocks concern the reader. */
+static int as_reported(const unsigned char *t, size_t n, const char *report)
+{
+    static struct plain_plan plan;
+    size_t place;
+    char want[64];
+    unsigned no = plain_read(t, n, &plan, &place);
+    if (no != 0)
+        snprintf(want, sizeof want, "NO\t%u\t%zu\n", no, place);
+    else
+        snprintf(want, sizeof want, "RUN\t%u\t%u\t", plan.stations, plan.turns);
+    if (strncmp(report, want, strlen(want)) != 0)
+        return 0;
+    for (unsigned k = 0; no == 0 && k < plan.stocks; k++) {
+        snprintf(want, sizeof want, "\nSTOCK\t%u\t%.*s\n", k, (int)plan.length[k], plan.code[k]);
+        if (strstr(report, want) == NULL)
+            return 0;
+    }
+    return 1;
+}
+
+/* A file of plans and their reports, each behind its length in 4 bytes. */
+static int compare_stored(const char *name)
+{
+    FILE *f = fopen(name, "rb");
+    unsigned long count = 0;
+    size_t n, m;
+    unsigned char *plan_text, *report;
+    if (f == NULL) {
+        printf("%s: no plans\n", name);
+        return 0;
+    }
+    while ((plan_text = some(f, &n)) != NULL && (report = some(f, &m)) != NULL) {
+        int alike = compare(plan_text, n) && as_reported(plan_text, n, (char *)report);
+        free(plan_text);
+        free(report);
+        if (!alike) {
+            printf("%s: plan %lu differs\n", name, count);
+            return 0;
+        }
+        count++;
+    }
+    fclose(f);
+    printf("%s: %lu plans alike\n", name, count);
+    return count > 0;
+}
+
+/* As long a text as may be, with as many turns; HAS lines with codes of 60 stocks and one more fill what the turns leave. */
 static void figure_text(void)
 {
+    const size_t most = GANG_MOST_TEXT_BYTES;
     unsigned k = 0;
     size = 0;
-    put("GANG\t16");
-    for (unsigned t = 0; t < 4096; t++) {
+    put("GANG\t");
+    put_number(GANG_MOST_STATIONS);
+    for (unsigned t = 0; t < GANG_MOST_TURNS; t++) {
         put(t % 64 ? "\t" : "\nTURN\t");
-        put_number(1 + t % 16);
+        put_number(1 + t % GANG_MOST_STATIONS);
     }
-    while (size < 32768 - 40) {
+    while (size < most - 40) {
         put("\nHAS\t");
-        put_number(1 + k % 16);
-        for (unsigned c = 0; c < 16 && size < 32768 - 20; c++) {
+        put_number(1 + k % GANG_MOST_STATIONS);
+        for (unsigned c = 0; c < 16 && size < most - 20; c++) {
             put("\tSTOCK-");
             put_number(10 + k++ % 60);
         }
     }
-    while (size < 32768 - 10)
+    while (size < most - 10)
         put("\tSTOCK-10");
-    if (size < 32768 - 1) {
+    if (size < most - 1) {
         put("\t");
-        while (size < 32768)
+        while (size < most)
             put("A");
     }
-    if (size < 32768)
+    if (size < most)
         put("\n");
 }
 
 static int figure(const char *which)
 {
-    static uint64_t sets[16];
-    static unsigned char codes[768], turns[4096];
-    static size_t lens[64], told[3], place;
+    static struct lent ours;
     static struct plain_plan plan;
+    size_t turns, place;
     unsigned no;
     figure_text();
     if (strcmp(which, "ours") == 0) {
-        no = plan_read(text, size, sets, codes, lens, turns, told);
+        no = gang_read_plan(text, size, ours.sets, ours.codes, ours.lens, ours.turns, ours.told);
+        turns = ours.told[GANG_TOLD_TURNS];
     } else {
         no = plain_read(text, size, &plan, &place);
-        told[2] = plan.turns;
+        turns = plan.turns;
     }
-    printf("%zu bytes: %u, %zu turns\n", size, no, told[2]);
+    printf("%zu bytes: %u, %zu turns\n", size, no, turns);
     return no != 0;
 }
 
 int main(int argc, char **argv)
 {
     unsigned long count;
+    int alike = 1;
     if (argc == 3 && strcmp(argv[1], "figure") == 0)
         return figure(argv[2]);
     if (argc < 3)
@@ -304,8 +326,10 @@ int main(int argc, char **argv)
         }
     }
     printf("%lu plans alike: %lu taken", count, given[0]);
-    for (unsigned n = 11; n < 20; n++)
-        printf(", %u: %lu", n, given[n]);
+    for (unsigned no = GANG_LONG_TEXT; no <= GANG_MORE_TURNS; no++)
+        printf(", %u: %lu", no, given[no]);
     printf("\n");
-    return argc > 3 ? !compare_vectors(argv[3]) : 0;
+    for (int f = 3; f < argc; f++)
+        alike &= compare_stored(argv[f]);
+    return !alike;
 }

@@ -47,7 +47,7 @@ static unsigned number(struct field f, unsigned most)
 static unsigned take_code(struct plain_plan *plan, unsigned station, struct field f)
 {
     unsigned k;
-    if (f.size > 12)
+    if (f.size > GANG_MOST_CODE_BYTES)
         return 17;
     while (f.size > 0 && f.start[f.size - 1] == ' ')
         f.size--;
@@ -57,7 +57,7 @@ static unsigned take_code(struct plain_plan *plan, unsigned station, struct fiel
         if (plan->length[k] == f.size && memcmp(plan->code[k], f.start, f.size) == 0)
             break;
     if (k == plan->stocks) {
-        if (k == 64)
+        if (k == GANG_MOST_STOCKS)
             return 18;
         memcpy(plan->code[k], f.start, f.size);
         plan->length[k] = (unsigned char)f.size;
@@ -93,7 +93,7 @@ static unsigned turn_line(struct plain_plan *plan, const unsigned char *at, cons
         unsigned i = number(f, plan->stations);
         if (i == 0)
             return 16;
-        if (plan->turns == 4096)
+        if (plan->turns == GANG_MOST_TURNS)
             return 19;
         plan->turn[plan->turns++] = (unsigned char)i;
     }
@@ -106,7 +106,7 @@ static unsigned gang_line(struct plain_plan *plan, const unsigned char *at, cons
     next_field(&at, end, &word);
     if (!is_word(word, "GANG") || !next_field(&at, end, &f) || at <= end)
         return 12;
-    plan->stations = number(f, 16);
+    plan->stations = number(f, GANG_MOST_STATIONS);
     return plan->stations == 0 ? 12 : 0;
 }
 
@@ -127,7 +127,7 @@ unsigned plain_read(const unsigned char *text, size_t size, struct plain_plan *p
     size_t line = 0;
     memset(plan, 0, sizeof *plan);
     *place = 0;
-    if (size > 32768)
+    if (size > GANG_MOST_TEXT_BYTES)
         return 11;
     do {
         const unsigned char *end = at;

@@ -1,18 +1,17 @@
-/* A plain reader of the plan text, written from document 01 alone, to compare with. */
+/* A plain reader of the plan text, written from the rules alone (docs/MODEL.md, 8), to compare with. */
 #ifndef PLAN_PLAIN_H
 #define PLAN_PLAIN_H
 
-#include <stddef.h>
-#include <stdint.h>
+#include "gang.h"
 
 struct plain_plan {
     unsigned stations;
     unsigned stocks;
     unsigned turns;
-    unsigned char code[64][12];
-    unsigned char length[64];
-    uint64_t set[16];
-    unsigned char turn[4096];
+    unsigned char code[GANG_MOST_STOCKS][GANG_MOST_CODE_BYTES];
+    unsigned char length[GANG_MOST_STOCKS];
+    uint64_t set[GANG_MOST_STATIONS];
+    unsigned char turn[GANG_MOST_TURNS];
 };
 
 /* 0, with the plan; or the refusal's number, with its place. */

@@ -1,5 +1,5 @@
 -- Document 01, "Turns worked by hand": cases A to I as one table, and one proof over it, of the definitions that the contracts of
--- `report::whole::print_plan` and `run::call::gang_run` cite. "Where no stocks are given, station i has stock i-1 alone."
+-- `report::whole::print_plan` and `run::call::run_call` cite. "Where no stocks are given, station i has stock i-1 alone."
 use Prim.Native.Nat.{ℕ, zero, suc, _-_, _^_}
 use Prim.Native.Char.{code}
 use Prim.Native.String.{String, [] as ends, _∷_ as _then_}

@@ -61,7 +61,7 @@ fn answer_agrees(
     want: &[u8],
     answer: &mut [u8],
 ) -> bool {
-    let returned = run::call::gang_run(n, inputs, turns, answer);
+    let returned = run::call::run_call(n, inputs, turns, answer);
     if returned as u64 != number {
         return false;
     }

@@ -4,6 +4,7 @@ ghost use mathlib.Core.Path.{_≡_};
 ghost use Prim.Native.Nat.{_≤_};
 ghost use lib.ListN.{length};
 ghost use Rattle.io.specs.Counts.{Counts};
+use input::Input;
 use judging::Judged;
 use judging::judge_call;
 use judging::judge_plan;
@@ -73,16 +74,26 @@ fn run_all(kind: Kind, path: &[u8], file: &[u8]) -> Tally {
     Tally { agree, of }
 }
 
+// A file that cannot be read whole is told, and has no entries.
 fn read_file(path: &[u8], file: &mut [u8]) -> usize
     ensures { λ r. ⌜ Counts r (now (file .exit)) ⌝ }
 {
     let fd = os::open_read(path);
     if fd < 0 {
         os::fail(path);
+        return 0;
     }
-    let got = input::read_all(fd, file);
-    libc::close(fd);
-    got
+    match input::read_all(fd, file) {
+        Input::Whole(got) => {
+            libc::close(fd);
+            got
+        }
+        Input::Failed => {
+            os::fail(path);
+            libc::close(fd);
+            0
+        }
+    }
 }
 
 fn run_file(kind: Kind, path: &[u8]) -> Tally {

@@ -1,9 +1,10 @@
-// Reads a plan from standard input and prints its report. A closed output is no fault of the plan.
+// Reads a plan from standard input and prints its report. A read or a write that fails is told on standard error.
 ghost use mathlib.Core.Path.{_≡_};
 ghost use Prim.Native.Nat.{_+_};
 ghost use lib.ListN.{length};
 ghost use Rattle.text.specs.Limits.{mostBytes};
 ghost use Rattle.report.specs.Printed.{mostPrinted};
+use input::Input;
 use libc::STDIN_FILENO;
 use libc::STDOUT_FILENO;
 use page::PAGE;
@@ -26,14 +27,31 @@ fn report_room() -> [u8; PAGE]
     [0; PAGE]
 }
 
-fn main() {
-    let mut text = text_room();
-    let got = input::read_all(STDIN_FILENO, &mut text);
+fn write_out(report: &[u8]) {
+    if !io::write_all(STDOUT_FILENO, report) {
+        os::fail(b"gangrun: standard output");
+    }
+}
+
+fn print_report(plan: &[u8]) {
     let mut page = report_room();
-    match report::whole::print_plan(&text[..got], &mut page) {
+    match report::whole::print_plan(plan, &mut page) {
         Printed::Whole(end) => {
-            io::write_all(STDOUT_FILENO, &page[..end]);
+            write_out(&page[..end]);
         }
         Printed::TooSmall => {}
+    }
+}
+
+// A text of which only a part was read is no plan: it is not run.
+fn main() {
+    let mut text = text_room();
+    match input::read_all(STDIN_FILENO, &mut text) {
+        Input::Whole(got) => {
+            print_report(&text[..got]);
+        }
+        Input::Failed => {
+            os::fail(b"gangrun: standard input");
+        }
     }
 }

@@ -6,11 +6,13 @@ use native.Mathlib.Omega.{arith}
 use lib.ListN.{length, take, length-take, length-drop}
 use lib.Seq.{length-take-le}
 use borrow.Rule.Slice.PartMut.{midOf, putMid, same-len-mid}
+use Rattle.io.specs.Counts.{Counts}
 
 pub record Filled (at : ℕ) (text start : List ℕ) : Type 0 where
   pub within : at ≤ length text
   pub long : length text ≡ length start
 
+-- what lies behind the first `at` bytes is written anew, and n of it are bytes that came
 pub filled-more : {at : ℕ} {text start : List ℕ} (n : ℕ) (ys : List ℕ) → Filled at text start → length ys ≡ length (midOf at (length text - at) text) → n ≤ length (midOf at (length text - at) text)
     → Filled (at + n) (putMid at (length text - at) text ys) start
 filled-more {at} {text} {start} n ys f e h =
@@ -18,5 +20,8 @@ filled-more {at} {text} {start} n ys f e h =
     let part : length (midOf at (length text - at) text) ≤ length text - at = simp (length-take, length-drop) (omega arith) in
     record { within = omega (arith, f .within, long, part, h); long = omega (arith, f .long, long) }
 
-pub filled-count : {at : ℕ} {text start : List ℕ} → Filled at text start → (at ≤ length text) × (at ≡ length (take at text))
+pub filled-on : {at : ℕ} {text start : List ℕ} (ys : List ℕ) → Filled at text start → length ys ≡ length (midOf at (length text - at) text) → Filled at (putMid at (length text - at) text ys) start
+filled-on {at} {text} ys f e = let g = filled-more 0 ys f e (omega arith) in record { within = omega (arith, g .within); long = g .long }
+
+pub filled-count : {at : ℕ} {text start : List ℕ} → Filled at text start → Counts at text
 filled-count {at} {text} f = (f .within, sym (length-take-le at text (f .within)))

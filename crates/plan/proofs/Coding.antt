@@ -15,20 +15,20 @@ use Rattle.plan.specs.Hand.{codesIn, Table, CodedRead}
 use Rattle.plan.specs.declared.Coded.{Coded}
 use Rattle.plan.specs.declared.Coded.the-variants.{Stocks, Refused}
 use Rattle.text.specs.declared.Fault.{Fault}
-use Rattle.text.specs.declared.Fault.the-variants.{NoCode}
+use Rattle.text.specs.declared.Fault.the-variants.{BadCode}
 use Rattle.text.proofs.Codes.{code-front, code-short}
 use Rattle.plan.proofs.Windows.{part-length, part-front}
 
 module _ (h : Holding) (f : List ℕ) where
-  pub code-long : mostCode < length f → no NoCode ≡ takeCode h f
+  pub code-long : mostCode < length f → no BadCode ≡ takeCode h f
   unfolding takeCode code
   code-long l = sym (rw (lt-leb (length f) mostCode l))
 
-  short-code : length f ≤ mostCode → code f ≡ cond (empty (codeOf f)) (no NoCode) (taken (codeOf f))
+  short-code : length f ≤ mostCode → code f ≡ cond (empty (codeOf f)) (no BadCode) (taken (codeOf f))
   unfolding code
   short-code l = rw (le-leb (length f) mostCode l)
 
-  pub code-blank : length f ≤ mostCode → length (codeOf f) ≡ 0 → no NoCode ≡ takeCode h f
+  pub code-blank : length f ≤ mostCode → length (codeOf f) ≡ 0 → no BadCode ≡ takeCode h f
   unfolding takeCode
   code-blank l z = sym (rw (short-code l, nothing (codeOf f) z))
     where

@@ -9,7 +9,7 @@ use Rattle.text.specs.Number.{numberTo}
 use Rattle.text.specs.Plan.{Out, taken, no, then, each, station, Holding, holding, takeCode, Stocked, stocked, hasLine}
 use Rattle.fields.specs.Window.{part, noTab, fieldsFrom}
 use Rattle.text.specs.declared.Fault.{Fault}
-use Rattle.text.specs.declared.Fault.the-variants.{FewFields, NoStation}
+use Rattle.text.specs.declared.Fault.the-variants.{FewFields, BadStation}
 use Rattle.plan.specs.Hand.{codesIn, CodedRead, HasAt, StockedRead}
 use Rattle.plan.specs.declared.Coded.{Coded}
 use Rattle.plan.specs.declared.Coded.the-variants.{Stocks, Refused as No}
@@ -38,7 +38,7 @@ module _ (n : ℕ) (s : Stocked) (text : List ℕ) (at end : ℕ) where
           rw (fields-step text at end e here inside e-is, fields-step text (e + 1) end next (omega arith) inside refl)
 
       module _ (i : ℕ) (i-is : i ≡ numberTo n (part text at e)) where
-        has-nobody : i ≡ 0 → no NoStation ≡ hasLine n s (fieldsFrom text at end)
+        has-nobody : i ≡ 0 → no BadStation ≡ hasLine n s (fieldsFrom text at end)
         has-nobody z = sym (opened ∙ rw (station-none n (part text at e) i i-is z))
 
         module _ (some : i ≡ 0 → ⊥) (out : Out Holding) (out-is : each takeCode (holding (s .codes) (getD (s .sets) (i - 1) 0)) (fieldsFrom text (e + 1) end) ≡ out) where
@@ -67,7 +67,7 @@ module _ {text : List ℕ} {end n : ℕ} {sets starts lens keys : List ℕ} {cou
     read-one h = record { gives = has-one n (before text sets starts lens count) text at end (asked .ends) here e e-is h; kept = tt }
 
     module _ (more : e < end) {i : ℕ} (i-is : i ≡ numberTo n (part text at e)) where
-      pub read-nobody : i ≡ 0 → StockedRead (Refused NoStation) text sets starts lens keys (hasLine n (before text sets starts lens count) (fieldsFrom text at end))
+      pub read-nobody : i ≡ 0 → StockedRead (Refused BadStation) text sets starts lens keys (hasLine n (before text sets starts lens count) (fieldsFrom text at end))
       read-nobody z = record { gives = has-nobody n (before text sets starts lens count) text at end (asked .ends) here e e-is more i i-is z; kept = tt }
 
       module _ (some : i ≡ 0 → ⊥) {r : Coded} {starts′ lens′ keys′ : List ℕ}

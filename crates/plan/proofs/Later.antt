@@ -14,7 +14,7 @@ use Rattle.text.specs.Text.{LF, parted, linesOf, fine, run}
 use Rattle.text.specs.Plan.{Out, taken, no, Held, fresh, laterFields, laterLine, firstLine, gangIn, gangOf, Reading, plan, refused, atLine, laterLines, allLines}
 use Rattle.fields.specs.Window.{fieldsFrom, strays}
 use Rattle.text.specs.declared.Fault.{Fault}
-use Rattle.text.specs.declared.Fault.the-variants.{StrayByte, NoGang}
+use Rattle.text.specs.declared.Fault.the-variants.{StrayByte, BadFirstLine}
 use Rattle.text.proofs.Runs.{both-true}
 use Rattle.text.proofs.Pieces.{run-most}
 use Rattle.plan.proofs.Windows.{lines-step, line-fine, line-strays}
@@ -78,7 +78,7 @@ module _ (text : List ℕ) (end : ℕ) (end-is : end ≡ 0 + run fine (drop 0 te
   no-text : length text ≡ 0 → text ≡ []
   no-text z = drop-of-length-le text {i = 0} (omega arith)
 
-  pub no-gang : strays text end ≡ false → gangOf (fieldsFrom text 0 end) ≡ 0 → refused NoGang 1 ≡ allLines (linesOf text)
+  pub no-gang : strays text end ≡ false → gangOf (fieldsFrom text 0 end) ≡ 0 → refused BadFirstLine 1 ≡ allLines (linesOf text)
   unfolding parted
   no-gang clean z =
       ⊎-elim

@@ -17,10 +17,10 @@ use Rattle.plan.specs.Hand.{TurnsIn}
 use Rattle.fields.specs.Window.{noTab, fieldsFrom}
 use Rattle.plan.proofs.Windows.{fields-step}
 use Rattle.plan.proofs.Fields.{fields-none}
-use Rattle.text.specs.declared.Fault.the-variants.{FewFields, NoStation, MoreTurns}
+use Rattle.text.specs.declared.Fault.the-variants.{FewFields, BadStation, MoreTurns}
 
 -- a station field, by its number
-pub station-none : (n : ℕ) (f : List ℕ) (s : ℕ) → s ≡ numberTo n f → s ≡ 0 → station n f ≡ no NoStation
+pub station-none : (n : ℕ) (f : List ℕ) (s : ℕ) → s ≡ numberTo n f → s ≡ 0 → station n f ≡ no BadStation
 unfolding station
 station-none n f s e z = ap stationIn (sym e ∙ z)
 
@@ -36,7 +36,7 @@ module _ (n : ℕ) (f : List ℕ) (s : ℕ) (s-is : s ≡ numberTo n f) (buf : L
   held : length (take k buf) ≡ k
   held = length-take-le k buf (omega arith)
 
-  pub turn-none : s ≡ 0 → takeTurn n (take k buf) f ≡ no NoStation
+  pub turn-none : s ≡ 0 → takeTurn n (take k buf) f ≡ no BadStation
   unfolding takeTurn
   turn-none z = rw (station-none n f s s-is z)
 

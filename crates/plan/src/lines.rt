@@ -197,7 +197,7 @@ pub(super) fn all_lines(
     let n = gang(text, end);
     if n == 0 {
         return Answer::Refused {
-            fault: Fault::NoGang,
+            fault: Fault::BadFirstLine,
             place: 1,
         };
     }

@@ -123,11 +123,11 @@ fn take_code(
     ensures { λ r. ⌜ CodedRead r (now (text .entry)) (now (starts .exit)) (now (lens .exit)) (now (keys .exit)) (takeCode (holding (codesIn (now (text .entry)) (now (starts .entry)) (now (lens .entry)) count) set) (part (now (text .entry)) at end)) ⌝ }
 {
     if end - at > CODE {
-        return Coded::Refused(Fault::NoCode);
+        return Coded::Refused(Fault::BadCode);
     }
     let n = code_len(&text[at..end]);
     if n == 0 {
-        return Coded::Refused(Fault::NoCode);
+        return Coded::Refused(Fault::BadCode);
     }
     add_stock(text, at, at + n, count, set, starts, lens, keys)
 }
@@ -193,7 +193,7 @@ pub(super) fn has_line(
     }
     let station = number(&text[at..e], n);
     if station == 0 {
-        return Counted::Refused(Fault::NoStation);
+        return Counted::Refused(Fault::BadStation);
     }
     let i = (station - 1) as usize;
     let set = sets[i];

@@ -27,7 +27,7 @@ fn turns_from(
         let e = field_end(&text[..end], i);
         let station = number(&text[i..e], n);
         if station == 0 {
-            return Counted::Refused(Fault::NoStation);
+            return Counted::Refused(Fault::BadStation);
         }
         if k >= TURNS {
             return Counted::Refused(Fault::MoreTurns);

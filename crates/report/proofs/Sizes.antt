@@ -19,8 +19,6 @@ use Rattle.method.proofs.Demand3.{fits-board, counts-add-up, count-within}
 use Rattle.answer.specs.Answer.{shownOf}
 use Rattle.text.specs.Limits.{mostCode}
 use Rattle.text.specs.Text.{LF, tab}
-use Rattle.text.specs.declared.Fault.{Fault}
-use Rattle.text.specs.declared.Fault.the-variants.{LongText, NoGang, StrayByte, OtherWord, FewFields, NoStation, NoCode, MoreStocks, MoreTurns}
 use Rattle.text.specs.Refusal.{numberOf}
 use Rattle.text.specs.Plan.{Held, Reading, plan, refused, reading}
 use Rattle.page.specs.Digits.{decimal, width}
@@ -29,7 +27,7 @@ use Rattle.report.specs.declared.Printed.the-variants.{Whole}
 use Rattle.report.specs.Printed.{report, reportOf, printed, mostPrinted, answerOf}
 use Rattle.page.proofs.Numerals.{digits-length, width-five}
 use Rattle.text.specs.Sound.{Sound}
-use Rattle.text.proofs.Outcomes.{sound as plan-sound, place-most}
+use Rattle.text.proofs.Outcomes.{sound as plan-sound, fault-most, place-most}
 
 decimal-most : (x : ℕ) → x < 100000 → length (decimal x) ≤ 5
 decimal-most x h = rw (digits-length 10 (width x) x) (width-five x h)
@@ -43,18 +41,6 @@ state-most (NotBegun stocks) = omega arith
 state-most (Uniting k own other side round) = omega arith
 state-most (Gathering S j got) = omega arith
 state-most (Settled S got) = omega arith
-
-fault-most : (f : Fault) → numberOf f < 100000
-unfolding numberOf
-fault-most LongText = omega arith
-fault-most NoGang = omega arith
-fault-most StrayByte = omega arith
-fault-most OtherWord = omega arith
-fault-most FewFields = omega arith
-fault-most NoStation = omega arith
-fault-most NoCode = omega arith
-fault-most MoreStocks = omega arith
-fault-most MoreTurns = omega arith
 
 -- ---- lines: a field more, with the byte behind it
 
@@ -185,7 +171,7 @@ printed-most text = go (reading text) refl
   where
     go : (r : Reading) → reading text ≡ r → length (reportOf r) ≤ mostPrinted
     go (plan h) e = report-most h (plan-sound text h e)
-    go (refused fault place) e = let p = place-most text fault place e in refusal-most (numberOf fault) place (fault-most fault) (omega arith)
+    go (refused fault place) e = let p = place-most text fault place e in refusal-most (numberOf fault) place (omega (arith, fault-most fault)) (omega arith)
 
 -- so a buffer of mostPrinted bytes always suffices
 pub always-whole : (text : List ℕ) (room : ℕ) → mostPrinted ≤ room → answerOf (printed text) room ≡ Whole (length (printed text))

@@ -18,7 +18,7 @@ use Rattle.turns.specs.Moves.{countEnd}
 use Rattle.turns.specs.Step.{stepOf}
 use Rattle.turns.specs.Playing.{stepped, unwrittenStep, stopsAt, playedOf}
 use Rattle.verdict.specs.declared.Verdict.{Verdict}
-use Rattle.verdict.specs.declared.Verdict.the-variants.{Accepted, NoStations, WrongInputs, TooManyTurns, BadTurn, ShortAnswer, UnwrittenLine}
+use Rattle.verdict.specs.declared.Verdict.the-variants.{Accepted, BadStationCount, BadInputBytes, TooManyTurns, BadTurn, ShortAnswer, UnwrittenLine}
 use Rattle.run.specs.Inputs.{inputsIn}
 use Rattle.answer.specs.Answer.{answerIn}
 use Rattle.verdict.specs.Refusals.{numberOf, firstBad, tests}
@@ -90,8 +90,8 @@ played-begun n inputs turns stocks start out p q r = rw (← p, ← q) r
 -- the number of a refusal is none
 pub accepted-none : (v : Verdict) → numberOf v ≡ 0 → v ≡ Accepted
 accepted-none Accepted e = refl
-accepted-none NoStations e = absurd (omega arith)
-accepted-none WrongInputs e = absurd (omega arith)
+accepted-none BadStationCount e = absurd (omega arith)
+accepted-none BadInputBytes e = absurd (omega arith)
 accepted-none TooManyTurns e = absurd (omega arith)
 accepted-none (BadTurn at) e = absurd (omega arith)
 accepted-none ShortAnswer e = absurd (omega arith)
@@ -102,8 +102,8 @@ passes {v} e f z = sym e ∙ accepted-none v (sym f ∙ z)
 
 stays : (run : Run) (turns : List ℕ) (v : Verdict) → (numberOf v ≡ 0 → ⊥) → playedOut run turns v ≡ v
 stays run turns Accepted e = absurd (e refl)
-stays run turns NoStations e = refl
-stays run turns WrongInputs e = refl
+stays run turns BadStationCount e = refl
+stays run turns BadInputBytes e = refl
 stays run turns TooManyTurns e = refl
 stays run turns (BadTurn at) e = refl
 stays run turns ShortAnswer e = refl
@@ -111,8 +111,8 @@ stays run turns (UnwrittenLine at) e = refl
 
 untouched : (n : ℕ) (inputs turns answer : List ℕ) (v : Verdict) → (numberOf v ≡ 0 → ⊥) → answerFor n inputs turns answer v ≡ answer
 untouched n inputs turns answer Accepted e = absurd (e refl)
-untouched n inputs turns answer NoStations e = refl
-untouched n inputs turns answer WrongInputs e = refl
+untouched n inputs turns answer BadStationCount e = refl
+untouched n inputs turns answer BadInputBytes e = refl
 untouched n inputs turns answer TooManyTurns e = refl
 untouched n inputs turns answer (BadTurn at) e = refl
 untouched n inputs turns answer ShortAnswer e = refl

@@ -15,7 +15,7 @@ use Rattle.method.specs.Turn.{after}
 use Rattle.method.specs.Demand.{Fits, Station, SettledOn, inputOf, gathered, timesNamed, turnsUnsettled, idleTurns, countsOf, mostOperations}
 use Rattle.method.proofs.Moments.{always-sound}
 use Rattle.verdict.specs.declared.Verdict.{Verdict}
-use Rattle.verdict.specs.declared.Verdict.the-variants.{Accepted, NoStations, WrongInputs, TooManyTurns, BadTurn, ShortAnswer, UnwrittenLine}
+use Rattle.verdict.specs.declared.Verdict.the-variants.{Accepted, BadStationCount, BadInputBytes, TooManyTurns, BadTurn, ShortAnswer, UnwrittenLine}
 use Rattle.run.specs.Inputs.{inputsIn}
 use Rattle.answer.specs.Answer.{rowBytes, answerBytes}
 use Rattle.verdict.specs.Refusals.{tests}
@@ -28,8 +28,8 @@ use Rattle.method.proofs.Demand3 as D
 -- a call is accepted only where the tests accept it
 passed : (run : Run) (turns : List ℕ) (v : Verdict) → playedOut run turns v ≡ Accepted → v ≡ Accepted
 passed run turns Accepted e = refl
-passed run turns NoStations e = e
-passed run turns WrongInputs e = e
+passed run turns BadStationCount e = e
+passed run turns BadInputBytes e = e
 passed run turns TooManyTurns e = e
 passed run turns (BadTurn at) e = e
 passed run turns ShortAnswer e = e

@@ -10,7 +10,7 @@ use Rattle.method.specs.Board.{registers, fresh}
 use Rattle.method.specs.Turn.{after, turn}
 use Rattle.method.specs.First.{firstFrom}
 use Rattle.verdict.specs.declared.Verdict.{Verdict}
-use Rattle.verdict.specs.declared.Verdict.the-variants.{Accepted, NoStations, WrongInputs, TooManyTurns, BadTurn, ShortAnswer, UnwrittenLine}
+use Rattle.verdict.specs.declared.Verdict.the-variants.{Accepted, BadStationCount, BadInputBytes, TooManyTurns, BadTurn, ShortAnswer, UnwrittenLine}
 use Rattle.verdict.specs.Refusals.{numberOf, tests}
 use Rattle.turns.specs.Playing.{isUnwritten}
 use Rattle.answer.specs.Answer.{answerBytes}
@@ -30,8 +30,8 @@ begun n inputs = fresh n (inputsIn registers inputs)
 -- with refusal 6, which comes last
 abbrev pub playedOut : Run → List ℕ → Verdict → Verdict
 playedOut run turns Accepted = cond (ltb (firstUnwritten run turns) (length turns)) (UnwrittenLine (firstUnwritten run turns)) Accepted
-playedOut run turns NoStations = NoStations
-playedOut run turns WrongInputs = WrongInputs
+playedOut run turns BadStationCount = BadStationCount
+playedOut run turns BadInputBytes = BadInputBytes
 playedOut run turns TooManyTurns = TooManyTurns
 playedOut run turns (BadTurn at) = BadTurn at
 playedOut run turns ShortAnswer = ShortAnswer
@@ -44,8 +44,8 @@ verdictOf n inputs turns answer = playedOut (begun n inputs) turns (tests n (len
 abbrev pub answerFor : ℕ → List ℕ → List ℕ → List ℕ → Verdict → List ℕ
 answerFor n inputs turns answer Accepted =
     answerBytes n (after (begun n inputs) turns (length turns) .rows) ++ drop (20 * n) answer
-answerFor n inputs turns answer NoStations = answer
-answerFor n inputs turns answer WrongInputs = answer
+answerFor n inputs turns answer BadStationCount = answer
+answerFor n inputs turns answer BadInputBytes = answer
 answerFor n inputs turns answer TooManyTurns = answer
 answerFor n inputs turns answer (BadTurn at) = answer
 answerFor n inputs turns answer ShortAnswer = answer

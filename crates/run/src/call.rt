@@ -1,4 +1,4 @@
-// The run call, for the RIP's host program in C.
+// The run call: the tests, the run, the answer.
 ghost use mathlib.Core.Path.{_≡_};
 ghost use lib.ListN.{length};
 ghost use Rattle.verdict.specs.declared.Verdict.the-variants.{Accepted};
@@ -28,8 +28,7 @@ fn carried_out(n: u64, inputs: &[u8], turns: &[u8], answer: &mut [u8]) -> Verdic
 
 // n stations with their inputs, 8 bytes each, and an order of turns, a byte each; the answer takes 20 bytes a station.
 // Returns 0, or the refusal plus 100 times its place, and then the answer is untouched.
-#[no_mangle]
-pub extern "C" fn gang_run(n: u64, inputs: &[u8], turns: &[u8], answer: &mut [u8]) -> u32
+pub fn run_call(n: u64, inputs: &[u8], turns: &[u8], answer: &mut [u8]) -> u32
     ensures { λ r. ⌜ (r ≡ returned n (now (inputs .entry)) (now (turns .entry)) (now (answer .entry))) × (now (answer .exit) ≡ answered n (now (inputs .entry)) (now (turns .entry)) (now (answer .entry))) ⌝ }
 {
     let refusal = number_of(tested(n, inputs.len(), turns, answer.len()));

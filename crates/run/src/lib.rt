@@ -3,5 +3,5 @@
 // The inputs, out of their bytes.
 mod words;
 
-// The exported call.
+// The call itself.
 pub mod call;

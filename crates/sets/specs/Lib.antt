@@ -1,4 +1,5 @@
--- Document 01's limits, sets of stations and of stocks, and the arrays of a level.
+-- The limits, sets of stations and of stocks, and the arrays of a level.
 pub mod Limits
+pub mod Placed
 pub mod Mask
 pub mod Arrays

@@ -1,42 +1,44 @@
--- An answer is fixed by what it says in document 01's numbers: `told-fixes`. For a caller of `read_plan`: an answer with counts is a plan that
--- was taken, `counts-told`, and an answer with a refusal is that refusal, `refusal-told`. A refused plan leaves every buffer as it was,
--- `refused-out`.
-use Prim.Native.Nat.{ℕ, zero, suc, _-_}
+-- An answer is fixed by what it says in numbers: `told-fixes`. For a caller of `read_plan`: an answer with counts is a plan that was taken,
+-- `counts-told`, and an answer with a refusal is that refusal, `refusal-told`. A refused plan leaves every buffer as it was, `refused-out`.
+-- What is returned is no large number, `returned-most`.
+use Prim.Native.Nat.{ℕ, zero, suc, _-_, _≤_}
 use mathlib.Core.Path.{_≡_, refl, sym, ap, _∙_}
 use mathlib.Core.List.{List}
 use native.Mathlib.Omega.{arith}
 use lib.ListN.{length}
+use Rattle.sets.specs.Placed.{withPlace}
+use Rattle.text.specs.Limits.{mostBytes}
 use Rattle.text.specs.Plan.{Held, Reading, plan, refused, reading}
 use Rattle.text.specs.Buffers.{toldOf, setsAfter, codesAfter, lensAfter, turnsAfter}
 use Rattle.text.specs.Sound.{Sound}
-use Rattle.text.proofs.Outcomes.{sound}
-use Rattle.text.specs.Refusal.{numberOf, Told, counts, refusal, told}
+use Rattle.text.proofs.Outcomes.{sound, fault-most, place-most}
+use Rattle.text.specs.Refusal.{numberOf, Told, counts, refusal, told, returned}
 use Rattle.text.specs.declared.Fault.{Fault}
-use Rattle.text.specs.declared.Fault.the-variants.{LongText, NoGang, StrayByte, OtherWord, FewFields, NoStation, NoCode, MoreStocks, MoreTurns}
+use Rattle.text.specs.declared.Fault.the-variants.{LongText, BadFirstLine, StrayByte, OtherWord, FewFields, BadStation, BadCode, MoreStocks, MoreTurns}
 use Rattle.text.specs.declared.Answer.{Answer}
 use Rattle.text.specs.declared.Answer.the-variants.{Plan, Refused}
 
 -- the row of the table, from 0
 row : ℕ → Fault
 row zero = LongText
-row (suc zero) = NoGang
+row (suc zero) = BadFirstLine
 row (suc (suc zero)) = StrayByte
 row (suc (suc (suc zero))) = OtherWord
 row (suc (suc (suc (suc zero)))) = FewFields
-row (suc (suc (suc (suc (suc zero))))) = NoStation
-row (suc (suc (suc (suc (suc (suc zero)))))) = NoCode
+row (suc (suc (suc (suc (suc zero))))) = BadStation
+row (suc (suc (suc (suc (suc (suc zero)))))) = BadCode
 row (suc (suc (suc (suc (suc (suc (suc zero))))))) = MoreStocks
 row (suc (suc (suc (suc (suc (suc (suc (suc n)))))))) = MoreTurns
 
 row-of : (f : Fault) → row (numberOf f - 11) ≡ f
 unfolding row numberOf
 row-of LongText = refl
-row-of NoGang = refl
+row-of BadFirstLine = refl
 row-of StrayByte = refl
 row-of OtherWord = refl
 row-of FewFields = refl
-row-of NoStation = refl
-row-of NoCode = refl
+row-of BadStation = refl
+row-of BadCode = refl
 row-of MoreStocks = refl
 row-of MoreTurns = refl
 
@@ -100,3 +102,11 @@ refused-out out fault place e sets codes lens turns = (
     ),
   ),
 )
+
+-- a refusal and 100 times a line of the longest text
+pub returned-most : (text : List ℕ) → returned (toldOf (reading text)) ≤ withPlace 19 mostBytes
+returned-most text = by-cases (reading text) refl
+  where
+    by-cases : (r : Reading) → reading text ≡ r → returned (toldOf r) ≤ withPlace 19 mostBytes
+    by-cases (plan h) is = omega arith
+    by-cases (refused fault place) is = omega (arith, fault-most fault, place-most text fault place is)

@@ -25,7 +25,7 @@ use Rattle.text.specs.Sound.{endsInSpace, GoodCode, GoodCodes, GoodStock
 use Rattle.text.specs.declared.Word.{Word}
 use Rattle.text.specs.declared.Word.the-variants.{Has, Turn, Other}
 use Rattle.text.specs.declared.Fault.{Fault}
-use Rattle.text.specs.declared.Fault.the-variants.{LongText, StrayByte, NoCode, MoreStocks, MoreTurns}
+use Rattle.text.specs.declared.Fault.the-variants.{LongText, BadFirstLine, StrayByte, OtherWord, FewFields, BadStation, BadCode, MoreStocks, MoreTurns}
 use Rattle.text.proofs.Codes.{code-short}
 use Rattle.text.proofs.Pieces.{run-most}
 use Rattle.text.proofs.Numbers.{number-most}
@@ -116,8 +116,8 @@ code-solid (b ∷ f) = solid-before b (codeOf f) (code-solid f)
 code-holds : (f : List ℕ) → Holds GoodCode (code f)
 unfolding code numberOf
 code-holds f =
-    cond-holds GoodCode (leb (length f) mostCode) (cond (empty (codeOf f)) (no NoCode) (taken (codeOf f))) (no NoCode)
-    (λ t. cond-holds GoodCode (empty (codeOf f)) (no NoCode) (taken (codeOf f))
+    cond-holds GoodCode (leb (length f) mostCode) (cond (empty (codeOf f)) (no BadCode) (taken (codeOf f))) (no BadCode)
+    (λ t. cond-holds GoodCode (empty (codeOf f)) (no BadCode) (taken (codeOf f))
     (λ e. (omega arith, omega arith))
     (λ e.
     record {
@@ -337,7 +337,19 @@ sound text h e = by-cases (outcome text)
     by-cases (long fault p z) = let z : _≡_ {A = ℕ} 0 1 = cc in absurd (omega arith)
     by-cases (stopped fault line p a b c d) = let z : _≡_ {A = ℕ} 0 1 = cc in absurd (omega arith)
 
--- ---- the place of a refusal
+-- ---- the number and the place of a refusal
+
+pub fault-most : (f : Fault) → numberOf f ≤ 19
+unfolding numberOf
+fault-most LongText = omega arith
+fault-most BadFirstLine = omega arith
+fault-most StrayByte = omega arith
+fault-most OtherWord = omega arith
+fault-most FewFields = omega arith
+fault-most BadStation = omega arith
+fault-most BadCode = omega arith
+fault-most MoreStocks = omega arith
+fault-most MoreTurns = omega arith
 
 onto-most : (t : Bool) (b : ℕ) (ps : List (List ℕ)) → length (joined t b ps) ≤ suc (length ps)
 onto-most true b ps = le-refl _
@@ -352,11 +364,11 @@ lines-most (b ∷ text) =
     let m = onto-most (eqb b LF) b (linesOf text) in
     omega arith
 
-pub place-most : (text : List ℕ) (fault : Fault) (p : ℕ) → reading text ≡ refused fault p → p ≤ 1 + mostBytes
+pub place-most : (text : List ℕ) (fault : Fault) (p : ℕ) → reading text ≡ refused fault p → p ≤ mostBytes
 unfolding reading
 place-most text fault p e = by-cases (leb (length text) mostBytes) refl e (outcome text)
   where
-    ended : length text ≤ mostBytes → Outcome text → p ≤ 1 + mostBytes
+    ended : length text ≤ mostBytes → Outcome text → p ≤ mostBytes
     ended h (planned k q s) = let z : _≡_ {A = ℕ} 0 1 = cc in absurd (omega arith)
     ended h (long f q z) = let w : p ≡ 0 = cc in omega arith
     ended h (stopped f line q a b c d) =
@@ -364,6 +376,6 @@ place-most text fault p e = by-cases (leb (length text) mostBytes) refl e (outco
         let m = lines-most text in
         omega arith
 
-    by-cases : (t : Bool) → leb (length text) mostBytes ≡ t → sized t text ≡ refused fault p → Outcome text → p ≤ 1 + mostBytes
+    by-cases : (t : Bool) → leb (length text) mostBytes ≡ t → sized t text ≡ refused fault p → Outcome text → p ≤ mostBytes
     by-cases true q e o = ended (leb-true (length text) mostBytes q) o
     by-cases false q e o = let w : 0 ≡ p = cc in omega arith

@@ -23,6 +23,11 @@ abbrev pub toldOf : Reading → Told
 toldOf (plan h) = counts (h .stations) (length (h .stocks .codes)) (length (h .turns))
 toldOf (refused fault place) = refusal (numberOf fault) place
 
+-- n, how many stocks and how many turns
+abbrev pub countsAfter : Told → List ℕ → List ℕ
+countsAfter (counts n stocks turns) was = n ∷ stocks ∷ turns ∷ []
+countsAfter (refusal number place) was = was
+
 -- the input set of each station
 abbrev pub setsAfter : Reading → List ℕ → List ℕ
 setsAfter (plan h) was = h .stocks .sets

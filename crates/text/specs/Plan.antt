@@ -13,7 +13,7 @@ use Rattle.text.specs.Code.{codeOf, stockOf}
 use Rattle.text.specs.declared.Word.{Word}
 use Rattle.text.specs.declared.Word.the-variants.{Has, Turn, Other}
 use Rattle.text.specs.declared.Fault.{Fault}
-use Rattle.text.specs.declared.Fault.the-variants.{LongText, NoGang, StrayByte, OtherWord, FewFields, NoStation, NoCode, MoreStocks, MoreTurns}
+use Rattle.text.specs.declared.Fault.the-variants.{LongText, BadFirstLine, StrayByte, OtherWord, FewFields, BadStation, BadCode, MoreStocks, MoreTurns}
 
 -- what a field or a line gives: it is taken, or refused
 pub data Out (A : Type 0) : Type 0 where
@@ -33,7 +33,7 @@ each step a (f ∷ fs) = then (step a f) (λ a′. each step a′ fs)
 
 -- 16: "a station field is no number from 1 to n"
 abbrev pub stationIn : ℕ → Out ℕ
-stationIn zero = no NoStation
+stationIn zero = no BadStation
 stationIn (suc i) = taken (suc i)
 
 unfoldable pub station : ℕ → List ℕ → Out ℕ
@@ -46,7 +46,7 @@ takeTurn n turns f =
 
 -- 17: "a code field is over 12 bytes, or has nothing left without its spaces"
 unfoldable pub code : List ℕ → Out (List ℕ)
-code f = cond (leb (length f) mostCode) (cond (empty (codeOf f)) (no NoCode) (taken (codeOf f))) (no NoCode)
+code f = cond (leb (length f) mostCode) (cond (empty (codeOf f)) (no BadCode) (taken (codeOf f))) (no BadCode)
 
 -- the codes so far, and the set of one station
 pub record Holding : Type 0 where
@@ -146,7 +146,7 @@ gangOf (w ∷ f ∷ g ∷ gs) = 0
 
 -- 12: "line 1 is not GANG and one number from 1 to 16"
 abbrev pub gangIn : ℕ → Out Held
-gangIn zero = no NoGang
+gangIn zero = no BadFirstLine
 gangIn (suc n) = taken (fresh (suc n))
 
 unfoldable pub firstLine : List ℕ → Out Held
@@ -169,7 +169,7 @@ laterLines k h (l ∷ ls) = atLine k (laterLine h l) (λ h′. laterLines (suc k
 
 -- "An empty text is 12 at place 1."
 abbrev pub allLines : List (List ℕ) → Reading
-allLines [] = refused NoGang 1
+allLines [] = refused BadFirstLine 1
 allLines (l ∷ ls) = atLine 1 (firstLine l) (λ h. laterLines 2 h ls)
 
 -- "11 comes first."

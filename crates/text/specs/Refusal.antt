@@ -1,19 +1,20 @@
 -- What an answer says in document 01's numbers: a plan's counts, or a refusal's number and place.
 use Prim.Native.Nat.{ℕ}
+use Rattle.sets.specs.Placed.{withPlace}
 use Rattle.text.specs.declared.Fault.{Fault}
-use Rattle.text.specs.declared.Fault.the-variants.{LongText, NoGang, StrayByte, OtherWord, FewFields, NoStation, NoCode, MoreStocks, MoreTurns}
+use Rattle.text.specs.declared.Fault.the-variants.{LongText, BadFirstLine, StrayByte, OtherWord, FewFields, BadStation, BadCode, MoreStocks, MoreTurns}
 use Rattle.text.specs.declared.Answer.{Answer}
 use Rattle.text.specs.declared.Answer.the-variants.{Plan, Refused}
 
 -- the numbers of the table
 unfoldable pub numberOf : Fault → ℕ
 numberOf LongText = 11
-numberOf NoGang = 12
+numberOf BadFirstLine = 12
 numberOf StrayByte = 13
 numberOf OtherWord = 14
 numberOf FewFields = 15
-numberOf NoStation = 16
-numberOf NoCode = 17
+numberOf BadStation = 16
+numberOf BadCode = 17
 numberOf MoreStocks = 18
 numberOf MoreTurns = 19
 
@@ -24,3 +25,8 @@ pub data Told : Type 0 where
 abbrev pub told : Answer → Told
 told (Plan n stocks turns) = counts n stocks turns
 told (Refused fault place) = refusal (numberOf fault) place
+
+-- the same as one number, as the run call returns it: 0 for a plan that is taken
+abbrev pub returned : Told → ℕ
+returned (counts n stocks turns) = 0
+returned (refusal number place) = withPlace number place

@@ -7,7 +7,7 @@ pub enum Fault {
     // 11: text above 32,768 bytes
     LongText,
     // 12: no line 1, or line 1 is not GANG and one number from 1 to 16
-    NoGang,
+    BadFirstLine,
     // 13: the line holds a byte other than tab and 20 to 7E hex
     StrayByte,
     // 14: a later line has another first field
@@ -15,9 +15,9 @@ pub enum Fault {
     // 15: HAS with fewer than two further fields, TURN with none
     FewFields,
     // 16: a station field is no number from 1 to n
-    NoStation,
+    BadStation,
     // 17: a code field is over 12 bytes, or has nothing left without its spaces
-    NoCode,
+    BadCode,
     // 18: a 65th stock
     MoreStocks,
     // 19: a 4,097th turn
@@ -50,12 +50,12 @@ pub fn number_of(fault: Fault) -> u8
 {
     match fault {
         Fault::LongText => 11,
-        Fault::NoGang => 12,
+        Fault::BadFirstLine => 12,
         Fault::StrayByte => 13,
         Fault::OtherWord => 14,
         Fault::FewFields => 15,
-        Fault::NoStation => 16,
-        Fault::NoCode => 17,
+        Fault::BadStation => 16,
+        Fault::BadCode => 17,
         Fault::MoreStocks => 18,
         Fault::MoreTurns => 19,
     }

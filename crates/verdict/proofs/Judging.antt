@@ -8,7 +8,7 @@ use borrow.Author.Tests.{lt-ltb, le-ltb, ltb-false, le-leb, lt-leb, leb-true, eq
 use lib.Dec.{leb}
 use lib.ListN.{length, getD}
 use Rattle.verdict.specs.declared.Verdict.{Verdict}
-use Rattle.verdict.specs.declared.Verdict.the-variants.{Accepted, NoStations, WrongInputs, TooManyTurns, BadTurn, ShortAnswer, UnwrittenLine}
+use Rattle.verdict.specs.declared.Verdict.the-variants.{Accepted, BadStationCount, BadInputBytes, TooManyTurns, BadTurn, ShortAnswer, UnwrittenLine}
 use Rattle.method.specs.Demand.{Station}
 use Rattle.method.specs.First.{firstFrom}
 use Rattle.method.proofs.Firsts.{Passed, passed-more, passed-stop, passed-all, first-past, first-none}
@@ -46,16 +46,16 @@ module _ (n : ℕ) (turns : List ℕ) (t : ℕ) (p : Passed (isBad n turns) (len
 -- ---- the tests, by the one that decides
 
 module _ (n inputs : ℕ) (turns : List ℕ) (size : ℕ) where
-  pub no-stations : n ≡ 0 → NoStations ≡ tests n inputs turns size
+  pub no-stations : n ≡ 0 → BadStationCount ≡ tests n inputs turns size
   unfolding tests
   no-stations e = rw e
 
-  pub many-stations : 16 < n → NoStations ≡ tests n inputs turns size
+  pub many-stations : 16 < n → BadStationCount ≡ tests n inputs turns size
   unfolding tests
   many-stations h = rw (lt-leb n 16 h, and-false (leb 1 n))
 
   module _ (low : n ≡ 0 → ⊥) (high : n ≤ 16) where
-    pub wrong-inputs : (inputs ≡ 8 * n → ⊥) → WrongInputs ≡ tests n inputs turns size
+    pub wrong-inputs : (inputs ≡ 8 * n → ⊥) → BadInputBytes ≡ tests n inputs turns size
     unfolding tests
     wrong-inputs e = rw (le-leb 1 n (omega arith), le-leb n 16 high, ne-eqb _ _ e)
 
@@ -106,8 +106,8 @@ both false b e = absurd (false≢true e)
 pub taken : (n inputs : ℕ) (turns : List ℕ) (size : ℕ) → tests n inputs turns size ≡ Accepted → Taken n inputs turns size
 unfolding tests
 taken n inputs turns size e =
-    let one = passes _ _ NoStations e (omega arith) in
-    let two = passes _ _ WrongInputs (one .1) (omega arith) in
+    let one = passes _ _ BadStationCount e (omega arith) in
+    let two = passes _ _ BadInputBytes (one .1) (omega arith) in
     let three = passes _ _ TooManyTurns (two .1) (omega arith) in
     let four = spared _ (BadTurn (firstBad n turns)) _ (three .1) (omega arith) in
     let five = passes _ _ ShortAnswer (four .1) (omega arith) in

@@ -1,24 +1,25 @@
 -- The refusals of a run call: document 01, "The run call".
-use Prim.Native.Nat.{ℕ, _+_, _*_}
+use Prim.Native.Nat.{ℕ, _*_}
 use mathlib.Core.Bool.{Bool, cond, not, _&&_}
 use mathlib.Core.List.{List}
 use lib.Dec.{leb, ltb, eqb}
 use lib.ListN.{length, getD}
 use Rattle.sets.specs.Limits.{mostTurns}
+use Rattle.sets.specs.Placed.{withPlace}
 use Rattle.method.specs.Board.{registers}
 use Rattle.method.specs.First.{firstFrom}
 use Rattle.verdict.specs.declared.Verdict.{Verdict}
-use Rattle.verdict.specs.declared.Verdict.the-variants.{Accepted, NoStations, WrongInputs, TooManyTurns, BadTurn, ShortAnswer, UnwrittenLine}
+use Rattle.verdict.specs.declared.Verdict.the-variants.{Accepted, BadStationCount, BadInputBytes, TooManyTurns, BadTurn, ShortAnswer, UnwrittenLine}
 
 -- "The number returned is 0, or the refusal plus 100 times its place."
 abbrev pub numberOf : Verdict → ℕ
 numberOf Accepted = 0
-numberOf NoStations = 1
-numberOf WrongInputs = 2
+numberOf BadStationCount = 1
+numberOf BadInputBytes = 2
 numberOf TooManyTurns = 3
-numberOf (BadTurn at) = 4 + 100 * at
+numberOf (BadTurn at) = withPlace 4 at
 numberOf ShortAnswer = 5
-numberOf (UnwrittenLine at) = 6 + 100 * at
+numberOf (UnwrittenLine at) = withPlace 6 at
 
 -- "a turn is 0 or above n": the first such turn, counted from 0
 abbrev pub isBad : ℕ → List ℕ → ℕ → Bool
@@ -35,5 +36,5 @@ tests n inputBytes turns answerSize =
     (cond (leb (length turns) mostTurns)
     (cond (ltb (firstBad n turns) (length turns)) (BadTurn (firstBad n turns)) (cond (leb (20 * n) answerSize) Accepted ShortAnswer))
     TooManyTurns)
-    WrongInputs)
-    NoStations
+    BadInputBytes)
+    BadStationCount

@@ -7,8 +7,8 @@ pub mod tests;
 
 pub enum Verdict {
     Accepted,
-    NoStations,
-    WrongInputs,
+    BadStationCount,
+    BadInputBytes,
     TooManyTurns,
     BadTurn { at: u16 },
     ShortAnswer,
@@ -21,8 +21,8 @@ pub fn number_of(verdict: Verdict) -> u32
 {
     match verdict {
         Verdict::Accepted => 0,
-        Verdict::NoStations => 1,
-        Verdict::WrongInputs => 2,
+        Verdict::BadStationCount => 1,
+        Verdict::BadInputBytes => 2,
         Verdict::TooManyTurns => 3,
         Verdict::BadTurn { at } => 4 + 100 * (at as u32),
         Verdict::ShortAnswer => 5,

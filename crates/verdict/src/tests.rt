@@ -40,13 +40,13 @@ pub fn tested(n: u64, input_bytes: usize, turns: &[u8], answer_size: usize) -> V
     ensures { λ r. ⌜ r ≡ tests n «input_bytes» (now (turns .entry)) «answer_size» ⌝ }
 {
     if n == 0 {
-        return Verdict::NoStations;
+        return Verdict::BadStationCount;
     }
     if MOST < n {
-        return Verdict::NoStations;
+        return Verdict::BadStationCount;
     }
     if input_bytes as u64 != 8 * n {
-        return Verdict::WrongInputs;
+        return Verdict::BadInputBytes;
     }
     if TURNS < turns.len() {
         return Verdict::TooManyTurns;

@@ -1,6 +1,10 @@
-use mathlib.Core.Path.{refl}
+-- `input::read_all` meets its contract: what has come stands at the front of the buffer, whose length stays.
+-- Assumes nothing.
+use mathlib.Core.Path.{refl, ap}
 use native.Mathlib.Omega.{arith}
-use Rattle.input.proofs.Filling.{Filled, filled-more, filled-count}
+use borrow.Author.Needs.{needs}
+use Rattle.input.specs.Within.{brought}
+use Rattle.input.proofs.Filling.{Filled, filled-more, filled-on, filled-count}
 use Rattle.input.proofs.read_all.Statement.{statement}
 use Rattle.input.proofs.read_all.Tie as tie
 
@@ -25,14 +29,35 @@ part-read-some-end c = omega arith
 read-some-requires : tie.Need-read-some-requires Inv-loop μ-loop
 read-some-requires c κs = tt
 
+enum-known-count : tie.Need-enum-known-count Inv-loop μ-loop
+enum-known-count c = search needs
+
 add-at : tie.Need-add-at Inv-loop μ-loop
-add-at c = omega arith
+add-at c = omega (arith, ap brought (c .before .count .given .1), c .before .before .before .before .before .read-some .ensures)
+
+enum-told : tie.Need-enum-told Inv-loop μ-loop
+enum-told c = search needs
 
 same-length : tie.Need-same-length Inv-loop μ-loop
-same-length c = (filled-more (c .before .before .before .before .before .read-some .result .count) (c .before .before .before .before .before .read-some .last .1 .0) (c .before .before .before .before .before .before .before .before .loop .inv) (c .before .before .before .before .before .read-some .kept .1 .0) (c .before .before .before .before .before .read-some .ensures)) .long
+same-length c =
+    let read = c .before .before .before .before .read-some in
+    filled-on (read .last .1 .0) (c .before .before .before .before .before .before .before .loop .inv) (read .kept .1 .0) .long
 
 returns : tie.Need-returns Inv-loop μ-loop
-returns c = filled-count (filled-more (c .before .before .before .before .before .read-some .result .count) (c .before .before .before .before .before .read-some .last .1 .0) (c .before .before .before .before .before .before .before .before .loop .inv) (c .before .before .before .before .before .read-some .kept .1 .0) (c .before .before .before .before .before .read-some .ensures))
+returns c =
+    let read = c .before .before .before .before .read-some in
+    filled-count (filled-on (read .last .1 .0) (c .before .before .before .before .before .before .before .loop .inv) (read .kept .1 .0))
+
+enum-told-2 : tie.Need-enum-told-2 Inv-loop μ-loop
+enum-told-2 c = search needs
+
+same-length-2 : tie.Need-same-length-2 Inv-loop μ-loop
+same-length-2 c =
+    let read = c .before .before .before .before .read-some in
+    filled-on (read .last .1 .0) (c .before .before .before .before .before .before .before .loop .inv) (read .kept .1 .0) .long
+
+returns-2 : tie.Need-returns-2 Inv-loop μ-loop
+returns-2 c = tt
 
 sub-reads : tie.Need-sub-reads Inv-loop μ-loop
 sub-reads c = omega arith
@@ -41,13 +66,15 @@ loop-less : tie.Need-loop-less Inv-loop μ-loop
 loop-less c = omega arith
 
 loop-again : tie.Need-loop-again Inv-loop μ-loop
-loop-again c = filled-more (c .before .before .before .before .before .read-some .result .count) (c .before .before .before .before .before .read-some .last .1 .0) (c .before .before .before .before .before .before .before .before .loop .inv) (c .before .before .before .before .before .read-some .kept .1 .0) (c .before .before .before .before .before .read-some .ensures)
+loop-again c =
+    let read = c .before .before .before .before .before .read-some in
+    filled-more (c .before .count .given .0 .0) (read .last .1 .0) (c .before .before .before .before .before .before .before .before .loop .inv) (read .kept .1 .0) (omega (arith, ap brought (c .before .count .given .1), read .ensures))
 
-same-length-2 : tie.Need-same-length-2 Inv-loop μ-loop
-same-length-2 c = c .before .loop .inv .long
+same-length-3 : tie.Need-same-length-3 Inv-loop μ-loop
+same-length-3 c = c .before .loop .inv .long
 
-returns-2 : tie.Need-returns-2 Inv-loop μ-loop
-returns-2 c = filled-count (c .before .loop .inv)
+returns-3 : tie.Need-returns-3 Inv-loop μ-loop
+returns-3 c = tt
 
 pub read-all-spec : {M : Type 1} → statement M
 read-all-spec =
@@ -60,11 +87,16 @@ read-all-spec =
     part-read-some-start
     part-read-some-end
     read-some-requires
+    enum-known-count
     add-at
+    enum-told
     same-length
     returns
+    enum-told-2
+    same-length-2
+    returns-2
     sub-reads
     loop-less
     loop-again
-    same-length-2
-    returns-2)
+    same-length-3
+    returns-3)

@@ -2,8 +2,8 @@ use mathlib.Core.Path.{_∙_, ap}
 use Rattle.verdict.specs.Refusals.{numberOf}
 use Rattle.run.proofs.Agree.{passes, refused-call}
 use borrow.Author.Needs.{needs}
-use Rattle.run.proofs.call.gang_run.Statement.{statement}
-use Rattle.run.proofs.call.gang_run.Tie as tie
+use Rattle.run.proofs.call.run_call.Statement.{statement}
+use Rattle.run.proofs.call.run_call.Tie as tie
 
 tested-requires : tie.Need-tested-requires
 tested-requires c κs = search needs
@@ -28,8 +28,8 @@ returns c =
 returns-2 : tie.Need-returns-2
 returns-2 c = refused-call _ _ _ _ (c .before .before .tested .result) _ (c .before .before .tested .ensures) (c .before .number-of .ensures) (c .if1 .left)
 
-pub gang-run-spec : {M : Type 1} → statement M
-gang-run-spec =
+pub run-call-spec : {M : Type 1} → statement M
+run-call-spec =
     tie.close
     (tie.spec
     tested-requires

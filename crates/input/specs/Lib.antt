@@ -1,0 +1,2 @@
+-- What the reading of a descriptor promises.
+pub mod Within

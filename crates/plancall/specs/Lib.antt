@@ -1,2 +1,0 @@
--- The call for C.
-pub mod Call
