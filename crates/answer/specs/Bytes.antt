@@ -1,4 +1,4 @@
--- Numbers as bytes, little-endian.
+-- Numbers as bytes: MODEL 7. "All numbers are little-endian."
 use Prim.Native.Nat.{ℕ, zero, suc, _/_, _%_}
 use mathlib.Core.List.{List, [], _∷_}
 

@@ -1,3 +1,3 @@
--- The answer's bytes, as document 01 words them.
+-- The answer's bytes: MODEL 7.
 pub mod Bytes
 pub mod Answer

@@ -1,2 +1,2 @@
--- Document 01's cases.
+-- The worked cases: MODEL 11.
 pub mod Table

@@ -1,5 +1,5 @@
--- Document 01, "Turns worked by hand": cases A to I as one table, and one proof over it, of the definitions that the contracts of
--- `report::whole::print_plan` and `run::call::run_call` cite. "Where no stocks are given, station i has stock i-1 alone."
+-- MODEL 11: cases A to I as one table, and one proof over it, of the definitions that the contracts of `report::whole::print_plan` and
+-- `run::call::run_call` cite. "Where no stocks are named, station i has stock i-1 alone."
 use Prim.Native.Nat.{ℕ, zero, suc, _-_, _^_}
 use Prim.Native.Char.{code}
 use Prim.Native.String.{String, [] as ends, _∷_ as _then_}
@@ -63,30 +63,30 @@ past = replicate 4 0xee
 
 cases : List Case
 cases =
-    -- A: "n=1, turns 1 1 1: count 2, one idle."
+    -- A: "n = 1, turns 1 1 1": "count 2 and one idle turn"
     prints "GANG\t1\nHAS\t1\tS01\nTURN\t1\t1\t1\n" "RUN\t1\t3\t1\nSTOCK\t0\tS01\nST\t1\t2\t2\t0001\t0000000000000001\n"
     ∷ calls 1 (own 1) (1 ∷ 1 ∷ 1 ∷ []) 0 (row 2 2 1 1 ++ past)
-    -- B: "n=1, turn 1: under way, count 1, sets zero."
+    -- B: "n = 1, turn 1": "under way with count 1; both sets zero"
     ∷ prints "GANG\t1\nHAS\t1\tS01\nTURN\t1\n" "RUN\t1\t1\t0\nSTOCK\t0\tS01\nST\t1\t1\t1\t-\t-\n"
     ∷ calls 1 (own 1) (1 ∷ []) 0 (row 1 1 0 0 ++ past)
-    -- C: "the plan above."
+    -- C: "the plan below"
     ∷ prints "GANG\t2\nHAS\t1\tKR90\nHAS\t2\tKR90  \tSB70\nTURN\t1\t1\t1\t1\t1\t2\t2\t2\t2\t2\t1\n"
     "RUN\t2\t11\t1\nSTOCK\t0\tKR90\nSTOCK\t1\tSB70\nST\t1\t2\t5\t0001\t0000000000000001\nST\t2\t2\t5\t0003\t0000000000000003\n"
-    -- D: "n=2, turns 1 2 five times over: both settle on stations 1 and 2, count 5 each."
+    -- D: "n = 2, turns 1 2 five times over": "both settle on both, with count 5"
     ∷ calls 2 (own 2) (times 5 (1 ∷ 2 ∷ [])) 0 (row 2 5 3 3 ++ row 2 5 3 3 ++ past)
-    -- E: "n=2, turns 1 1 1 2 2 1 1 1: station 1 settles on both with count 6; station 2 is under way, count 2."
+    -- E: "n = 2, turns 1 1 1 2 2 1 1 1": "station 1 settles on both with count 6; station 2 is under way with count 2"
     ∷ calls 2 (own 2) (1 ∷ 1 ∷ 1 ∷ 2 ∷ 2 ∷ 1 ∷ 1 ∷ 1 ∷ []) 0 (row 2 6 3 3 ++ row 1 2 0 0 ++ past)
-    -- F: "n=3, station 3 alone, 10 turns: settles on itself with count 10. After 9 it has not."
+    -- F: "n = 3, ten turns of station 3": "it settles on itself with count 10; after nine it has not"
     ∷ calls 3 (own 3) (times 10 (3 ∷ [])) 0 (row 0 0 0 0 ++ row 0 0 0 0 ++ row 2 10 4 4 ++ past)
     ∷ calls 3 (own 3) (times 9 (3 ∷ [])) 0 (row 0 0 0 0 ++ row 0 0 0 0 ++ row 1 9 0 0 ++ past)
-    -- G: "n=0 and n=17: 1. n=2 with a turn 3 in front: 4 at place 0."
+    -- G: "n = 0; n = 17; n = 2 with turn 3 first": "1; 1; 4 at place 0"
     ∷ calls 0 [] [] 1 past
     ∷ calls 17 (own 17) [] 1 (blank 17)
     ∷ calls 2 (own 2) (3 ∷ 1 ∷ []) 4 (blank 2)
-    -- H: "no turns: every station not begun."
+    -- H: "no turns": "no station has begun"
     ∷ calls 3 (own 3) [] 0 (row 0 0 0 0 ++ row 0 0 0 0 ++ row 0 0 0 0 ++ past)
     ∷ prints "GANG\t2\n" "RUN\t2\t0\t0\nST\t1\t0\t0\t-\t-\nST\t2\t0\t0\t-\t-\n"
-    -- I: "12-byte field taken, 13-byte field 17, field of one space 17."
+    -- I: "a code field of 12 bytes; of 13; of one space": "taken; 17; 17"
     ∷ prints "GANG\t1\nHAS\t1\tABCDEFGHIJKL\n" "RUN\t1\t0\t0\nSTOCK\t0\tABCDEFGHIJKL\nST\t1\t0\t0\t-\t-\n"
     ∷ prints "GANG\t1\nHAS\t1\tABCDEFGHIJKLM\n" "NO\t17\t2\n"
     ∷ prints "GANG\t1\nHAS\t1\t \n" "NO\t17\t2\n"
@@ -109,7 +109,7 @@ cases-right : map worked cases ≡ map given cases
 unfolding cases worked given ones holds memberFrom memberAfter arrayLength ownArray otherArray place depthFrom depth fresh freshOn rowOf lineOf levelOf registerOf withRow withLine withRegister gather climb writing pending reach again roundOver readOther readOwn absorbOwn absorbOther nextOp absorb goesOn perform named turn after didOf idleTurns firstFrom bytesOf numberIn inputsIn rowBytes answerBytes firstBad tests firstUnwritten verdictOf parted all run same valueOn numberTo codeOf numberOf each station takeTurn takeCode addStock Plan.code wordOf hasLine turnLine laterLine gangOf firstLine laterLines reading digits widthIn width line refusalLine runLine stockLine stationLine numbered reportLines report printed
 cases-right = refl
 
--- J: "the limit there is 107"
+-- J: "the limit is 107"
 limit-of-sixteen : mostOperations 16 ≡ 107
 unfolding mostOperations depth depthFrom
 limit-of-sixteen = refl

@@ -1,5 +1,5 @@
 -- What a level may bring to a block of stations, and that any two such sets are comparable. Levels, blocks, registers and stations are
--- counted from 0 here: block b of level d holds the 2 ^ d stations from b * 2 ^ d on, and its array is array b + 1 of document 01's level d + 1.
+-- counted from 0 here: block b of level d holds the 2 ^ d stations from b * 2 ^ d on, and its array is array b + 1 of level d + 1 in MODEL 2.
 use mathlib.Core.Path.{_≡_, refl, sym, subst}
 use mathlib.Core.Logic.{_⊎_, inl, inr, ⊎-swap}
 use Prim.Native.Nat.{ℕ, zero, suc, _+_, _*_, _/_, _%_, _^_, _≤_, _<_}

@@ -25,7 +25,7 @@ use Rattle.method.proofs.Moments.{always-sound}
 use Rattle.method.proofs.Counts as C
 use Rattle.method.proofs.Agreement.{settled-on, agrees, chain, member-named}
 
--- "N is the least number with 2^N at least n"
+-- "the least N such that 2^N is not below n"
 pub depth-is-least : (n : ℕ) → (n ≤ 2 ^ depth n) × ((k : ℕ) → n ≤ 2 ^ k → depth n ≤ k)
 depth-is-least n = (depth-enough n, depth-least n)
 
@@ -82,7 +82,7 @@ module _ {l r n : ℕ} {inputs : List ℕ} (fits : Fits l r n inputs) (turns : L
   pub operations-bounded : (t i : ℕ) → Station n i → rowOf (run t) i .count ≤ mostOperations n
   operations-bounded t i st = le-trans (C.count-most l r n inputs fits turns t i st) (sharper n)
 
-  -- The same with T-13's number.
+  -- The same with the sharper number.
   pub settles-sharp : (t i : ℕ) → Station n i → sharpOperations n ≤ timesNamed turns t i → (S : ℕ) × (x : ℕ) × SettledOn (run t) i S x
   settles-sharp t i st h = settled-on (rowOf (run t) i .state) (C.settles l r n inputs fits turns t i st h)
 

@@ -1,4 +1,4 @@
--- The board and the run record: document 01, "The board" and "Numbers". Stations, levels, arrays and registers are counted from 1.
+-- The board and the run record: MODEL 1 and 2. "Stations, levels, arrays and registers are counted from 1".
 use Prim.Native.Nat.{ℕ, zero, suc, _-_, _^_}
 use mathlib.Core.Bool.{true, false}
 use mathlib.Core.List.{List, map}
@@ -13,14 +13,14 @@ use Rattle.method.specs.declared.State.the-variants.{NotBegun}
 use Rattle.method.specs.declared.Row.{Row}
 use Rattle.method.specs.declared.Run.{Run}
 
--- "up to four levels, each a row of 16 registers"
+-- "four levels with a row of 16 registers each"
 abbrev pub levels : ℕ
 levels = 4
 
 abbrev pub registers : ℕ
 registers = mostStations
 
--- "N is the least number with 2^N at least n": the first from N on, looking at no more than `most` of them
+-- "the least N such that 2^N is not below n": the first from N on, looking at no more than `most` of them
 unfoldable pub depthFrom : ℕ → ℕ → ℕ → ℕ
 depthFrom zero N n = N
 depthFrom (suc most) N n = elim (leb n (2 ^ N)) [ true ↦ N | false ↦ depthFrom most (suc N) n ]
@@ -35,7 +35,7 @@ written s = record { stocks = s; written = true }
 abbrev pub unwritten : Line
 unwritten = record { stocks = 0; written = false }
 
--- a row of r registers, "all empty at first"
+-- a row of r registers, "all are empty at first"
 abbrev pub emptyLevel : ℕ → Level
 emptyLevel r = record { sets = replicate r 0 }
 

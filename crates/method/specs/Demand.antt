@@ -1,4 +1,4 @@
--- The words of demand 3, over the definitions of the run.
+-- The words of demand 3, MODEL 10, over the definitions of the run.
 use Prim.Native.Nat.{ℕ, zero, suc, _+_, _-_, _*_, _^_, _≤_}
 use mathlib.Core.Bool.{Bool, true, false, cond, not, _&&_}
 use mathlib.Core.List.{List}
@@ -79,7 +79,7 @@ unfoldable pub countsOf : Run → ℕ → ℕ
 countsOf run zero = 0
 countsOf run (suc n) = countsOf run n + rowOf run (suc n) .count
 
--- "6(2^N - 1) + n + 1", and the sharper number of T-13, which case E meets at n = 2
+-- "6(2^N - 1) + n + 1", and a sharper number, which case E meets at n = 2
 unfoldable pub mostOperations : ℕ → ℕ
 mostOperations n = 6 * (2 ^ depth n - 1) + n + 1
 

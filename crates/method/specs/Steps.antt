@@ -1,5 +1,5 @@
--- A station's steps: document 01, "A station's steps". A station's row alone says its next operation, and the row with what the
--- operation brought says the next row. `i` is the station's number and `N` the number of levels.
+-- A station's steps: MODEL 3 to 5, the last first. A station's row alone says its next operation, and the row with what the operation brought
+-- says the next row. `i` is the station's number and `N` the number of levels.
 use Prim.Native.Nat.{ℕ, _+_}
 use mathlib.Core.Bool.{Bool, true, false, cond, _||_}
 use lib.Dec.{ltb, eqb}
@@ -14,7 +14,7 @@ use Rattle.method.specs.declared.State.the-variants.{NotBegun, Uniting, 
 use Rattle.method.specs.declared.Op.{Op}
 use Rattle.method.specs.declared.Op.the-variants.{Post, Write, Read, ReadLine, Rest}
 
--- ---- 3. "For each station in S, ascending, itself included, read its line X. The settled set is the union of what was read."
+-- ---- MODEL 3, step 3: "it reads line X of each station in S, in ascending order, its own among them. Then it has settled"
 
 -- the next line to read is that of station j; none is left where j is 0
 abbrev pub gatherAt : Bool → ℕ → ℕ → ℕ → State
@@ -25,7 +25,7 @@ gatherAt false S j got = Gathering S j got
 unfoldable pub gather : ℕ → ℕ → ℕ → State
 gather S i got = gatherAt (eqb (memberAfter S i) 0) S (memberAfter S i) got
 
--- ---- 2. "Start with the set S of itself alone. For k from 1 to N: .. S becomes the result of the union over the two."
+-- ---- MODEL 3, step 2: "At each level k from 1 to N it makes the union (4) of its own array and the other, and goes on with that for S."
 
 abbrev pub reading : ℕ → ℕ → Reading
 reading M known = record { set = M; known = known }
@@ -34,18 +34,18 @@ reading M known = record { set = M; known = known }
 unfoldable pub climb : ℕ → ℕ → ℕ → State
 climb N k S = cond (ltb k N) (Uniting (k + 1) (reading S 0) (reading 0 0) Own First) (gather S 0 0)
 
--- ---- Reading an array from a set M
+-- ---- MODEL 5, reading an array from a set M
 
--- Whether (M, known) is still written: "write S to registers 1 to size(S)", and of a T that was found "write T to the registers from
--- size(M)+2 to size(T), ascending". One rule for both: M goes to each register that is not known to be filled, up to size(M).
+-- Whether (M, known) is still written: "S is written to registers 1 to size(S) of the own array", and a T that was found "is written to the
+-- registers behind that one, up to register size(T)". One rule for both: M goes to each register that is not known to be filled, up to size(M).
 unfoldable pub writing : Reading → Bool
 writing r = ltb (r .known) (size (r .set))
 
--- "if size(M) is the array's length, the answer is M with no operation": the reading has an operation left
+-- "A set that is as large as the array is long is the result, with no operation." Else the reading has an operation left
 unfoldable pub pending : ℕ → Reading → Bool
 pending k r = writing r || ltb (size (r .set)) (arrayLength k)
 
--- the next operation: write M to the first register that is not known, or "read register size(M)+1"
+-- the next operation: write M to the first register that is not known; else "register size(M)+1 is read"
 abbrev pub reachAt : Bool → ℕ → ℕ → Reading → Op
 reachAt true k c r = Write k c (r .known + 1) (r .set)
 reachAt false k c r = Read k c (size (r .set) + 1)
@@ -53,22 +53,22 @@ reachAt false k c r = Read k c (size (r .set) + 1)
 unfoldable pub reach : ℕ → ℕ → Reading → Op
 reach k c r = reachAt (writing r) k c r
 
--- after a write; and "if it holds T .. go on from T"
+-- after a write; and after a set T was found, "the reading goes on from T"
 abbrev pub wrote : Reading → Reading
 wrote r = reading (r .set) (r .known + 1)
 
 abbrev pub found : Reading → ℕ → Reading
 found r T = reading T (size (r .set) + 1)
 
--- ---- Union
+-- ---- MODEL 4, the union
 
--- "Then read own and other again, in that order, each from its last result. If neither changed, the answer is their union."
+-- "Then own and other are read again, in this order, each from its last result". "If neither has changed, the union is own and other together."
 unfoldable pub again : ℕ → ℕ → Reading → Reading → State
 again N k own other =
     cond (pending k own) (Uniting k own other Own Unchanged)
     (cond (pending k other) (Uniting k own other Other Unchanged) (climb N k (union (own .set) (other .set))))
 
--- own and other are read. "Otherwise the new results become the last ones and it reads again."
+-- own and other are read. "If one has, both are read again from the new results."
 unfoldable pub roundOver : ℕ → ℕ → Reading → Reading → Round → State
 roundOver N k own other First = again N k own other
 roundOver N k own other Unchanged = climb N k (union (own .set) (other .set))
@@ -99,7 +99,7 @@ absorbOther N k own other round v =
     cond (writing other) (readOther N k own (wrote other) round)
     (cond (eqb v 0) (roundOver N k own other round) (readOther N k own (found other v) (changed round)))
 
--- ---- The station's next operation, and its state after what that brought
+-- ---- MODEL 6, the station's next operation, and its state after what that brought
 
 unfoldable pub nextOp : ℕ → State → Op
 nextOp i (NotBegun stocks) = Post stocks

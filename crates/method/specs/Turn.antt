@@ -1,4 +1,4 @@
--- A turn and a run: document 01, "A turn does the station's next operation and all private work after it".
+-- A turn and a run: MODEL 6. "A turn names a station, which makes its next operation".
 use Prim.Native.Nat.{ℕ, zero, suc, _+_}
 use mathlib.Core.Bool.{Bool, true, false, cond, _&&_}
 use mathlib.Core.List.{List}
@@ -26,7 +26,7 @@ abbrev pub readLine : Run → ℕ → Line → Bool → Turned
 readLine run i l true = turned (goesOn run i (l .stocks)) Operation
 readLine run i l false = turned run Unwritten
 
--- the operation is made on the board, and what it brings goes to station i: "A turn of a settled station is idle and changes nothing."
+-- the operation is made on the board, and what it brings goes to station i: "A settled station is idle: its turn changes nothing."
 unfoldable pub perform : Run → ℕ → Op → Turned
 perform run i (Post stocks) = turned (goesOn (withLine run i (written stocks)) i 0) Operation
 perform run i (Write k c j v) = turned (goesOn (withRegister run k c j v) i 0) Operation

@@ -4,7 +4,7 @@ use mathlib.Core.Bool.{true, false, cond}
 use mathlib.Core.List.{List, [], _∷_, _++_}
 use lib.Dec.{ltb}
 
--- `0` to `9`, then `a` to `f`: "lower case"
+-- `0` to `9`, then `a` to `f`: "in small letters"
 abbrev pub digit : ℕ → ℕ
 digit d = cond (ltb d 10) (48 + d) (87 + d)
 
@@ -21,10 +21,10 @@ widthIn (suc most) x = elim (ltb x 10) [ true ↦ 1 | false ↦ suc (widthIn mos
 unfoldable pub width : ℕ → ℕ
 width x = widthIn x x
 
--- "decimal without leading zero"
+-- "decimal, with no zero in front"
 abbrev pub decimal : ℕ → List ℕ
 decimal x = digits 10 (width x) x
 
--- a set "in 4 hex digits", or "in 16"
+-- a set "in 4 hexadecimal digits", or "in 16"
 abbrev pub hex : ℕ → ℕ → List ℕ
 hex w x = digits 16 w x

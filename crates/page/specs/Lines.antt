@@ -1,4 +1,4 @@
--- The printed lines: document 01, "What gangrun prints".
+-- The printed lines: MODEL 9.
 use Prim.Native.Nat.{ℕ, suc}
 use mathlib.Core.Bool.{Bool, true, false}
 use mathlib.Core.List.{List, [], _∷_, _++_}
@@ -24,30 +24,30 @@ NO = 78 ∷ 79 ∷ []
 abbrev pub dash : ℕ
 dash = 45
 
--- "tabs between fields", "Every printed line ends in LF"
+-- "lines of fields with tabs between them, each ended by LF"
 unfoldable pub line : List (List ℕ) → List ℕ
 line [] = LF ∷ []
 line (f ∷ []) = f ++ LF ∷ []
 line (f ∷ g ∷ fs) = f ++ tab ∷ line (g ∷ fs)
 
--- "`NO`, number, place"
+-- "`NO`, the number and the place"
 unfoldable pub refusalLine : ℕ → ℕ → List ℕ
 refusalLine number place = line (NO ∷ decimal number ∷ decimal place ∷ [])
 
--- "`RUN`, n, turns, idle turns"
+-- "`RUN`, n, the number of turns, the number of idle turns"
 unfoldable pub runLine : ℕ → ℕ → ℕ → List ℕ
 runLine n turns idle = line (RUN ∷ decimal n ∷ decimal turns ∷ decimal idle ∷ [])
 
--- "a `STOCK` line for each stock (number, code)"
+-- "for each stock `STOCK`, its number, its code without the spaces at its end"
 unfoldable pub stockLine : ℕ → List ℕ → List ℕ
 stockLine k code = line (STOCK ∷ decimal k ∷ code ∷ [])
 
--- "each set `-` until settled"
+-- "For a station that has not settled each set is `-`."
 abbrev pub setShown : Bool → ℕ → ℕ → List ℕ
 setShown true w set = hex w set
 setShown false w set = dash ∷ []
 
--- "`ST`, number, state, count, stations set in 4 hex digits, stocks set in 16 (lower case)"
+-- "for each station `ST`, its number, its state, its count, its set of stations in 4 hexadecimal digits and its set of stocks in 16"
 unfoldable pub stationLine : ℕ → Row → List ℕ
 stationLine i row =
     line
@@ -74,6 +74,6 @@ unfoldable pub numbered : {A : Type 0} → (ℕ → A → List ℕ) → ℕ → 
 numbered lineOf k [] = []
 numbered lineOf k (x ∷ xs) = lineOf k x ++ numbered lineOf (suc k) xs
 
--- "`RUN`, n, turns, idle turns; then a `STOCK` line for each stock (number, code); then for each station `ST` .."
+-- the whole report: the `RUN` line, the `STOCK` lines, the `ST` lines
 unfoldable pub reportLines : ℕ → ℕ → ℕ → List (List ℕ) → List Row → List ℕ
 reportLines n turns idle codes rows = runLine n turns idle ++ numbered stockLine 0 codes ++ numbered stationLine 1 (take n rows)

@@ -1,4 +1,4 @@
--- From a plan's text to the printed text: one definition.
+-- From a plan's text to the printed text, MODEL 9: one definition.
 use Prim.Native.Nat.{ℕ, _+_, _*_}
 use mathlib.Core.Bool.{cond}
 use mathlib.Core.List.{List, _++_}
@@ -19,7 +19,7 @@ unfoldable pub report : ℕ → List ℕ → List (List ℕ) → List ℕ → Li
 report n sets codes turns =
     reportLines n (length turns) (idleTurns (fresh n sets) turns (length turns)) codes (after (fresh n sets) turns (length turns) .rows)
 
--- "Refused: one line, `NO`, number, place. Otherwise .."
+-- "Of a refused plan that is one line"
 abbrev pub reportOf : Reading → List ℕ
 reportOf (plan h) = report (h .stations) (h .stocks .sets) (h .stocks .codes) (h .turns)
 reportOf (refused fault place) = refusalLine (numberOf fault) place
@@ -35,6 +35,6 @@ mostPrinted = mostRun + mostStocks * mostStock + mostStations * mostStation
 unfoldable pub answerOf : List ℕ → ℕ → Printed
 answerOf text room = cond (leb (length text) room) (Whole (length text)) TooSmall
 
--- "bytes past the text stay as they were"; a buffer that is too small "is left untouched"
+-- bytes behind the text stay as they were, and so do all of a buffer that is too small
 unfoldable pub bufferOf : List ℕ → List ℕ → List ℕ
 bufferOf text was = cond (leb (length text) (length was)) (text ++ drop (length text) was) was

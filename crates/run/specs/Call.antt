@@ -1,4 +1,4 @@
--- The run call: document 01, "The run call".
+-- The run call: MODEL 7.
 use Prim.Native.Nat.{ℕ, _*_}
 use mathlib.Core.Bool.{Bool, cond}
 use mathlib.Core.Path.{_≡_}
@@ -16,7 +16,7 @@ use Rattle.turns.specs.Playing.{isUnwritten}
 use Rattle.answer.specs.Answer.{answerBytes}
 use Rattle.run.specs.Inputs.{inputsIn}
 
--- "a turn reads a line X never written": the first such turn
+-- 6: "a turn would read a line X that was never written": the first such turn
 abbrev pub readsUnwritten : Run → List ℕ → ℕ → Bool
 readsUnwritten run turns t = isUnwritten (turn (after run turns t) (getD turns t 0) .did)
 
@@ -40,7 +40,7 @@ playedOut run turns (UnwrittenLine at) = UnwrittenLine at
 unfoldable pub verdictOf : ℕ → List ℕ → List ℕ → List ℕ → Verdict
 verdictOf n inputs turns answer = playedOut (begun n inputs) turns (tests n (length inputs) turns (length answer))
 
--- "Every answer byte is left untouched by each of them." "Bytes past 20n stay as they were."
+-- a refusal: "then no answer byte is changed"; else "Answer bytes from 20n on stay as they are."
 abbrev pub answerFor : ℕ → List ℕ → List ℕ → List ℕ → Verdict → List ℕ
 answerFor n inputs turns answer Accepted =
     answerBytes n (after (begun n inputs) turns (length turns) .rows) ++ drop (20 * n) answer

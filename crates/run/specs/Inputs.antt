@@ -1,4 +1,4 @@
--- The inputs: document 01, "Inputs are 8 bytes a station", little-endian.
+-- The inputs: MODEL 7. "An input is 8 bytes, the stocks of a station as a number".
 use Prim.Native.Nat.{ℕ, zero, suc, _+_, _*_}
 use mathlib.Core.List.{List, [], _∷_}
 use lib.ListN.{take, drop}
@@ -8,7 +8,7 @@ unfoldable pub numberIn : List ℕ → ℕ
 numberIn [] = 0
 numberIn (b ∷ bytes) = b + 256 * numberIn bytes
 
--- "Inputs are 8 bytes a station": the first m of them, empty where there are no bytes
+-- the inputs of the first m stations, empty where there are no bytes
 unfoldable pub inputsIn : ℕ → List ℕ → List ℕ
 inputsIn zero bytes = []
 inputsIn (suc m) bytes = numberIn (take 8 bytes) ∷ inputsIn m (drop 8 bytes)

@@ -1,3 +1,3 @@
--- The run call, as document 01 words it.
+-- The run call: MODEL 7.
 pub mod Inputs
 pub mod Call

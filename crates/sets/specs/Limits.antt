@@ -1,4 +1,4 @@
--- Document 01, "Numbers": the limits, each named here once.
+-- The limits: MODEL 1. Each is named here once.
 use Prim.Native.Nat.{ℕ}
 
 abbrev pub mostStations : ℕ
@@ -10,10 +10,10 @@ mostStocks = 64
 abbrev pub mostTurns : ℕ
 mostTurns = 4096
 
--- a plan text
+-- "bytes of a plan text"
 abbrev pub mostBytes : ℕ
 mostBytes = 32768
 
--- a code field, spaces counted
+-- "bytes of a code field, with its spaces"
 abbrev pub mostCode : ℕ
 mostCode = 12

@@ -1,4 +1,4 @@
--- A set as a mask: station or stock number i, counted from 1, is the binary digit 2 ^ (i - 1).
+-- A set as a mask: MODEL 1. "As a number, a set has the binary digit 2^(i-1) for station i".
 -- Executable; no width is built in.
 use Prim.Native.Nat.{ℕ, zero, suc, _+_, _-_, _/_, _%_, _^_, _≤_}
 use mathlib.Core.Bool.{Bool, true, false, cond, _&&_}
@@ -6,7 +6,7 @@ use lib.Dec.{eqb, leb}
 use lib.Bits.{bitOr}
 use lib.Count.{ones}
 
--- "Size means the number of stations in a set."
+-- "The size of a set of stations is how many stations it holds."
 abbrev pub size : ℕ → ℕ
 size s = ones s
 

@@ -1,4 +1,4 @@
-// A level's arrays, in document 01's numbers: levels, arrays and registers are counted from 1.
+// A level's arrays: MODEL 2 and 3. Levels, arrays and registers are counted from 1.
 ghost use mathlib.Core.Path.{_≡_};
 ghost use Prim.Native.Nat.{_+_, _-_, _≤_, min};
 ghost use mathlib.Core.Bool.{cond};

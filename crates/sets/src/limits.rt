@@ -1,4 +1,4 @@
-// The limits: document 01, "Numbers" and "The board". The definitions name them in specs/Limits.antt.
+// The limits: MODEL 1 and 2. The definitions name them in specs/Limits.antt.
 
 // Stations, as a count and as the last station's number. A level has a register for each, and the record a line and a row.
 pub const STATIONS: usize = 16;

@@ -18,7 +18,7 @@ unfoldable pub cellsOf : List (List ℕ) → List ℕ
 cellsOf [] = []
 cellsOf (c ∷ cs) = padded mostCode c ++ cellsOf cs
 
--- the answer in document 01's numbers: n, how many stocks and turns; or number and place
+-- the answer in numbers: n, how many stocks and turns; or number and place
 abbrev pub toldOf : Reading → Told
 toldOf (plan h) = counts (h .stations) (length (h .stocks .codes)) (length (h .turns))
 toldOf (refused fault place) = refusal (numberOf fault) place

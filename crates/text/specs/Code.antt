@@ -1,4 +1,4 @@
--- Codes: "A code is taken up to its last byte that is no space; spaces in front or inside count."
+-- Codes: MODEL 8. "A code ends at its last byte that is no space; a space in front or within belongs to it."
 use Prim.Native.Nat.{ℕ}
 use mathlib.Core.Bool.{Bool, true, false, not}
 use mathlib.Core.List.{List, [], _∷_}

@@ -1,4 +1,4 @@
--- What a reader must believe: document 01, "The plan text", as executable definitions.
+-- What a reader must believe: the plan text, MODEL 8, as executable definitions.
 pub mod Limits
 pub mod Text
 pub mod Number

@@ -1,4 +1,4 @@
--- "a number is decimal without leading zero", and counts by its true value however many digits it has.
+-- Numbers: MODEL 8. "A number is decimal, with no zero in front." It counts by its true value however many digits it has.
 use Prim.Native.Nat.{ℕ, _+_, _-_, _*_}
 use mathlib.Core.Bool.{Bool, true, false, cond, _&&_, _||_, not}
 use mathlib.Core.List.{List, [], _∷_}

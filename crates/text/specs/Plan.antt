@@ -1,5 +1,4 @@
--- The plan: its lines from the top, the fields of a line from the left. The first refusal ends it.
--- Executable, in the words of document 01, "The plan text".
+-- The plan: MODEL 8. Its lines from the top, the fields of a line from the left. "The first refusal ends the reading." Executable.
 use Prim.Native.Nat.{ℕ, zero, suc, _-_, _^_}
 use mathlib.Core.Bool.{Bool, true, false, cond}
 use mathlib.Core.List.{List, [], _∷_, _++_}
@@ -24,14 +23,14 @@ abbrev pub then : {A B : Type 0} → Out A → (A → Out B) → Out B
 then (taken a) f = f a
 then (no fault) f = no fault
 
--- "each of its fields is taken as found or refused before the next is taken"
+-- each field is taken or refused before the next is looked at
 unfoldable pub each : {A : Type 0} → (A → List ℕ → Out A) → A → List (List ℕ) → Out A
 each step a [] = taken a
 each step a (f ∷ fs) = then (step a f) (λ a′. each step a′ fs)
 
 -- ---- fields
 
--- 16: "a station field is no number from 1 to n"
+-- 16: "a station is not a number from 1 to n"
 abbrev pub stationIn : ℕ → Out ℕ
 stationIn zero = no BadStation
 stationIn (suc i) = taken (suc i)
@@ -39,12 +38,12 @@ stationIn (suc i) = taken (suc i)
 unfoldable pub station : ℕ → List ℕ → Out ℕ
 station n f = stationIn (numberTo n f)
 
--- a turn "added at the end of the turns"; 19: "a 4,097th turn"
+-- "these turns come after those before"; 19: "it would be turn number 4,097"
 unfoldable pub takeTurn : ℕ → List ℕ → List ℕ → Out (List ℕ)
 takeTurn n turns f =
     then (station n f) (λ i. cond (ltb (length turns) mostTurns) (taken (turns ++ (i ∷ []))) (no MoreTurns))
 
--- 17: "a code field is over 12 bytes, or has nothing left without its spaces"
+-- 17: "a code field has more than 12 bytes, or nothing but spaces"
 unfoldable pub code : List ℕ → Out (List ℕ)
 code f = cond (leb (length f) mostCode) (cond (empty (codeOf f)) (no BadCode) (taken (codeOf f))) (no BadCode)
 
@@ -60,7 +59,7 @@ holding cs s = record { codes = cs; set = s }
 abbrev pub withStock : ℕ → ℕ → ℕ
 withStock s k = bitOr s (2 ^ k)
 
--- the code is stock k: "Stocks are numbered from 0 by first appearance"; 18: "a 65th stock"
+-- the code is stock k: "stocks are numbered from 0, in the order in which their codes first appear"; 18: "it would be stock number 65"
 abbrev pub stockAt : ℕ → Holding → List ℕ → Out Holding
 stockAt k h c =
     cond (ltb k (length (h .codes)))
@@ -83,7 +82,8 @@ pub record Stocked : Type 0 where
 abbrev pub stocked : List (List ℕ) → List ℕ → Stocked
 stocked cs ss = record { codes = cs; sets = ss }
 
--- `HAS`, a station, one or more codes: "added to that station's set; several lines add up". 15: "HAS with fewer than two further fields"
+-- "`HAS`, a station, and one or more codes: these stocks join the station's set. Lines for one station add up". 15: "`HAS` has fewer than two
+-- fields behind it"
 unfoldable pub hasLine : ℕ → Stocked → List (List ℕ) → Out Stocked
 hasLine n s [] = no FewFields
 hasLine n s (i ∷ []) = no FewFields
@@ -92,7 +92,7 @@ hasLine n s (f ∷ c ∷ cs) =
     then (each takeCode (holding (s .codes) (getD (s .sets) (i - 1) 0)) (c ∷ cs)) (λ h.
     taken (stocked (h .codes) (set (s .sets) (i - 1) (h .set)))))
 
--- `TURN` and one or more stations. 15: "TURN with none"
+-- "`TURN` and one or more stations". 15: "or `TURN` has none"
 unfoldable pub turnLine : ℕ → List ℕ → List (List ℕ) → Out (List ℕ)
 turnLine n turns [] = no FewFields
 turnLine n turns (f ∷ fs) = each (takeTurn n) turns (f ∷ fs)
@@ -106,7 +106,7 @@ pub record Held : Type 0 where
 abbrev pub held : ℕ → Stocked → List ℕ → Held
 held n s ts = record { stations = n; stocks = s; turns = ts }
 
--- "A station without HAS has the empty set."
+-- "a station with no such line has the empty set"
 abbrev pub fresh : ℕ → Held
 fresh n = held n (stocked [] (replicate mostStations 0)) []
 
@@ -123,7 +123,7 @@ TURN = 84 ∷ 85 ∷ 82 ∷ 78 ∷ []
 unfoldable pub wordOf : List ℕ → Word
 wordOf w = cond (same w HAS) Has (cond (same w TURN) Turn Other)
 
--- 14: "a later line has another first field, a second GANG or an empty line included"
+-- 14: "a line after the first starts with some other field; an empty line does, and a second `GANG`"
 abbrev pub wordLine : Word → Held → List (List ℕ) → Out Held
 wordLine Has h fs = then (hasLine (h .stations) (h .stocks) fs) (λ s. taken (held (h .stations) s (h .turns)))
 wordLine Turn h fs = then (turnLine (h .stations) (h .turns) fs) (λ ts. taken (held (h .stations) (h .stocks) ts))
@@ -133,7 +133,7 @@ abbrev pub laterFields : Held → List (List ℕ) → Out Held
 laterFields h [] = no OtherWord
 laterFields h (w ∷ fs) = wordLine (wordOf w) h fs
 
--- 13 comes before the rest
+-- "Of one line 13 is tested first"
 unfoldable pub laterLine : Held → List ℕ → Out Held
 laterLine h l = cond (all fine l) (laterFields h (fieldsOf l)) (no StrayByte)
 
@@ -144,7 +144,7 @@ gangOf (w ∷ []) = 0
 gangOf (w ∷ f ∷ []) = cond (same w GANG) (numberTo mostStations f) 0
 gangOf (w ∷ f ∷ g ∷ gs) = 0
 
--- 12: "line 1 is not GANG and one number from 1 to 16"
+-- 12: "there is no line 1, or it is not `GANG` and one number from 1 to 16"
 abbrev pub gangIn : ℕ → Out Held
 gangIn zero = no BadFirstLine
 gangIn (suc n) = taken (fresh (suc n))
@@ -158,7 +158,7 @@ pub data Reading : Type 0 where
   plan : Held → Reading
   refused : Fault → (place : ℕ) → Reading
 
--- a line's number is the place of what it is refused for
+-- "The place is the number of the line, from 1"
 abbrev pub atLine : ℕ → Out Held → (Held → Reading) → Reading
 atLine k (taken h) go = go h
 atLine k (no fault) go = refused fault k
@@ -167,12 +167,12 @@ unfoldable pub laterLines : ℕ → Held → List (List ℕ) → Reading
 laterLines k h [] = plan h
 laterLines k h (l ∷ ls) = atLine k (laterLine h l) (λ h′. laterLines (suc k) h′ ls)
 
--- "An empty text is 12 at place 1."
+-- "an empty text is 12 at place 1"
 abbrev pub allLines : List (List ℕ) → Reading
 allLines [] = refused BadFirstLine 1
 allLines (l ∷ ls) = atLine 1 (firstLine l) (λ h. laterLines 2 h ls)
 
--- "11 comes first."
+-- "11 is tested before all"
 abbrev pub sized : Bool → List ℕ → Reading
 sized true text = allLines (linesOf text)
 sized false text = refused LongText 0

@@ -1,4 +1,4 @@
--- What an answer says in document 01's numbers: a plan's counts, or a refusal's number and place.
+-- What an answer says in the numbers of MODEL 8: a plan's counts, or a refusal's number and place.
 use Prim.Native.Nat.{ℕ}
 use Rattle.sets.specs.Placed.{withPlace}
 use Rattle.text.specs.declared.Fault.{Fault}
@@ -6,7 +6,7 @@ use Rattle.text.specs.declared.Fault.the-variants.{LongText, BadFirstLin
 use Rattle.text.specs.declared.Answer.{Answer}
 use Rattle.text.specs.declared.Answer.the-variants.{Plan, Refused}
 
--- the numbers of the table
+-- the numbers of the table in MODEL 8
 unfoldable pub numberOf : Fault → ℕ
 numberOf LongText = 11
 numberOf BadFirstLine = 12

@@ -1,4 +1,4 @@
--- A text is cut into lines, and a line into fields.
+-- A text is cut into lines, and a line into fields: MODEL 8.
 use Prim.Native.Nat.{ℕ, zero, suc}
 use mathlib.Core.Bool.{Bool, true, false, _&&_, _||_}
 use mathlib.Core.List.{List, [], _∷_}
@@ -28,11 +28,11 @@ unfoldable pub parted : ℕ → List (List ℕ) → List ℕ → List (List ℕ)
 parted sep ends [] = ends
 parted sep ends (b ∷ t) = joined (eqb b sep) b (parted sep ends t)
 
--- "Lines end in LF; a last line may lack it." "An LF at the very end starts no further line."
+-- "LF ends a line; at the end of the text it may be missing." "A LF at the very end begins no line."
 abbrev pub linesOf : List ℕ → List (List ℕ)
 linesOf text = parted LF [] text
 
--- "Fields are parted by tabs": each tab parts, so a line has one field more than it has tabs
+-- "A tab parts two fields": a line has one field more than it has tabs
 abbrev pub fieldsOf : List ℕ → List (List ℕ)
 fieldsOf line = parted tab ([] ∷ []) line
 
@@ -40,7 +40,7 @@ unfoldable pub all : (ℕ → Bool) → List ℕ → Bool
 all f [] = true
 all f (b ∷ bs) = f b && all f bs
 
--- "tab and 20 to 7E hex": what a line may hold
+-- what a line may hold: 13 is for a byte that "is neither a tab nor one from 20 to 7E hex"
 abbrev pub fine : ℕ → Bool
 fine b = eqb b tab || (leb 0x20 b && leb b 0x7e)
 

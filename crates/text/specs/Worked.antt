@@ -1,5 +1,4 @@
--- Plans worked by hand, computed from the definitions: document 01's example, its case I, and a row for each refusal and each reading
--- of an odd text. A plan taken shows n, the codes, the sets of the first three stations and the turns.
+-- Plans worked by hand, computed from the definitions: cases C and I of MODEL 11, and a row for each refusal and each reading of an odd text. A plan taken shows n, the codes, the sets of the first three stations and the turns.
 use Prim.Native.Nat.{ℕ}
 use Prim.Native.Char.{code}
 use Prim.Native.String.{String, [] as ends, _∷_ as _then_}

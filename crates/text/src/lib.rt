@@ -2,25 +2,25 @@
 ghost use mathlib.Core.Path.{_≡_};
 ghost use Rattle.text.specs.Refusal.{numberOf};
 
-// The rows of document 01's table, each with its number there.
+// The rows of the table in MODEL 8, each with its number there.
 pub enum Fault {
-    // 11: text above 32,768 bytes
+    // 11: the text has more than 32,768 bytes
     LongText,
-    // 12: no line 1, or line 1 is not GANG and one number from 1 to 16
+    // 12: there is no line 1, or it is not GANG and one number from 1 to 16
     BadFirstLine,
-    // 13: the line holds a byte other than tab and 20 to 7E hex
+    // 13: a byte of the line is neither a tab nor one from 20 to 7E hex
     StrayByte,
-    // 14: a later line has another first field
+    // 14: a line after the first starts with some other field
     OtherWord,
-    // 15: HAS with fewer than two further fields, TURN with none
+    // 15: HAS has fewer than two fields behind it, or TURN has none
     FewFields,
-    // 16: a station field is no number from 1 to n
+    // 16: a station is not a number from 1 to n
     BadStation,
-    // 17: a code field is over 12 bytes, or has nothing left without its spaces
+    // 17: a code field has more than 12 bytes, or nothing but spaces
     BadCode,
-    // 18: a 65th stock
+    // 18: it would be stock number 65
     MoreStocks,
-    // 19: a 4,097th turn
+    // 19: it would be turn number 4,097
     MoreTurns,
 }
 
@@ -44,7 +44,7 @@ pub enum Word {
     Other,
 }
 
-// The number of a refusal in document 01's table.
+// The number of a refusal in the table of MODEL 8.
 pub fn number_of(fault: Fault) -> u8
     ensures { λ r. ⌜ r ≡ numberOf fault ⌝ }
 {

@@ -1,2 +1,2 @@
--- What comes of a run call before its first turn, as document 01 words it.
+-- What comes of a run call before its first turn: MODEL 7.
 pub mod Refusals

@@ -1,4 +1,4 @@
--- The refusals of a run call: document 01, "The run call".
+-- The refusals of a run call: MODEL 7.
 use Prim.Native.Nat.{ℕ, _*_}
 use mathlib.Core.Bool.{Bool, cond, not, _&&_}
 use mathlib.Core.List.{List}
@@ -11,7 +11,7 @@ use Rattle.method.specs.First.{firstFrom}
 use Rattle.verdict.specs.declared.Verdict.{Verdict}
 use Rattle.verdict.specs.declared.Verdict.the-variants.{Accepted, BadStationCount, BadInputBytes, TooManyTurns, BadTurn, ShortAnswer, UnwrittenLine}
 
--- "The number returned is 0, or the refusal plus 100 times its place."
+-- "The call returns 0; or the number of a refusal and 100 times its place"
 abbrev pub numberOf : Verdict → ℕ
 numberOf Accepted = 0
 numberOf BadStationCount = 1
@@ -21,14 +21,14 @@ numberOf (BadTurn at) = withPlace 4 at
 numberOf ShortAnswer = 5
 numberOf (UnwrittenLine at) = withPlace 6 at
 
--- "a turn is 0 or above n": the first such turn, counted from 0
+-- 4: "a turn is 0, or more than n": "the first such turn", counted from 0
 abbrev pub isBad : ℕ → List ℕ → ℕ → Bool
 isBad n turns t = not (leb 1 (getD turns t 0) && leb (getD turns t 0) n)
 
 unfoldable pub firstBad : ℕ → List ℕ → ℕ
 firstBad n turns = firstFrom (isBad n turns) 0 (length turns)
 
--- the refusals 1 to 5, "tested in this order", of a call with n stations, so many input bytes, these turns, and so many answer bytes
+-- the refusals 1 to 5, "The tests are made in this order", of a call with n stations, so many input bytes, these turns, and so many answer bytes
 unfoldable pub tests : ℕ → ℕ → List ℕ → ℕ → Verdict
 tests n inputBytes turns answerSize =
     cond (leb 1 n && leb n registers)
