@@ -22,7 +22,7 @@ static void run_plan(const char *text)
 {
     static uint64_t sets[GANG_MOST_STATIONS];
     static uint8_t codes[GANG_CODES_BYTES], turns[GANG_MOST_TURNS];
-    static size_t lens[GANG_MOST_STOCKS], told[GANG_TOLD];
+    static size_t lens[GANG_MOST_STOCKS], told[GANG_TOLD_NUMBERS];
     static uint8_t inputs[GANG_MOST_STATIONS * GANG_INPUT_BYTES], answer[GANG_MOST_STATIONS * GANG_ROW_BYTES];
     uint32_t returned = gang_read_plan((const uint8_t *)text, strlen(text), sets, codes, lens, turns, told);
     show("the plan is read", returned);

@@ -149,7 +149,7 @@ struct lent {
     uint8_t codes[GANG_CODES_BYTES];
     size_t lens[GANG_MOST_STOCKS];
     uint8_t turns[GANG_MOST_TURNS];
-    size_t told[GANG_TOLD];
+    size_t told[GANG_TOLD_NUMBERS];
     uint8_t behind[64];
 };
 

@@ -83,7 +83,7 @@ uint32_t gang_run(uint64_t n,
 
 /* A plan that was read: its cells of codes, and its counts. */
 #define GANG_CODES_BYTES (GANG_MOST_STOCKS * GANG_MOST_CODE_BYTES)
-#define GANG_TOLD 3
+#define GANG_TOLD_NUMBERS 3
 #define GANG_TOLD_STATIONS 0
 #define GANG_TOLD_STOCKS 1
 #define GANG_TOLD_TURNS 2
@@ -101,7 +101,7 @@ uint32_t gang_read_plan(const uint8_t *text, size_t text_bytes,
                         uint8_t codes[GANG_CODES_BYTES],
                         size_t lens[GANG_MOST_STOCKS],
                         uint8_t turns[GANG_MOST_TURNS],
-                        size_t told[GANG_TOLD]);
+                        size_t told[GANG_TOLD_NUMBERS]);
 
 #ifdef __cplusplus
 }

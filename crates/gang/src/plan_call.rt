@@ -1,8 +1,9 @@
 // The reading of a plan, for a program that keeps stations, stocks and turns in arrays of its own.
 ghost use mathlib.Core.Path.{_≡_};
 ghost use Prim.Native.Nat.{_^_, _<_};
+ghost use Rattle.sets.specs.Placed.{withPlace};
 ghost use Rattle.text.specs.Plan.{reading};
-ghost use Rattle.text.specs.Refusal.{told, returned};
+ghost use Rattle.text.specs.Refusal.{numberOf, returned};
 ghost use Rattle.text.specs.Buffers.{toldOf, countsAfter, setsAfter, codesAfter, lensAfter, turnsAfter};
 use plan::read_plan;
 use sets::limits::CELLS;
@@ -10,37 +11,15 @@ use sets::limits::STATIONS;
 use sets::limits::STOCKS;
 use sets::limits::TURNS;
 use text::Answer;
+use text::Fault;
 use text::number_of;
 
-// What the call hands back: the number, and what `told` holds.
-struct Handed {
-    number: u32,
-    told: [usize; 3],
-}
-
-// The counts of a plan that is taken; of one that is refused its number and place, and `told` as it was. The number fits, since a place is a
-// line of the text.
-fn hand_back(answer: Answer, was: [usize; 3]) -> Handed
-    requires { ⌜ returned (told answer) < 2 ^ 32 ⌝ }
-    ensures { λ r. ⌜ (r .number ≡ returned (told answer)) × (r .told ≡ countsAfter (told answer) was) ⌝ }
+// A refusal and its place as one number. It fits, since a place is a line of the text.
+fn with_place(fault: Fault, place: usize) -> u32
+    requires { ⌜ withPlace (numberOf fault) place < 2 ^ 32 ⌝ }
+    ensures { λ r. ⌜ r ≡ withPlace (numberOf fault) place ⌝ }
 {
-    match answer {
-        Answer::Plan {
-            stations: n,
-            stocks: s,
-            turns: t,
-        } => {
-            let stations = n as usize;
-            Handed {
-                number: 0,
-                told: [stations, s, t],
-            }
-        }
-        Answer::Refused { fault: f, place: p } => Handed {
-            number: (number_of(f) as u32) + 100 * (p as u32),
-            told: was,
-        },
-    }
+    (number_of(fault) as u32) + 100 * (place as u32)
 }
 
 // Returns 0, with n and the numbers of stocks and of turns in `told`, or the refusal plus 100 times its place, and then every array is untouched.
@@ -60,10 +39,16 @@ pub extern "C" fn gang_read_plan(
     ensures lens { λ _. ⌜ now (lens .exit) ≡ lensAfter (reading (now (text .entry))) (now (lens .entry)) ⌝ }
     ensures turns { λ _. ⌜ now (turns .exit) ≡ turnsAfter (reading (now (text .entry))) (now (turns .entry)) ⌝ }
 {
-    let answer = read_plan(text, sets, codes, lens, turns);
-    let was = *told;
-    let out = hand_back(answer, was);
-    let counts = out.told;
-    *told = counts;
-    out.number
+    match read_plan(text, sets, codes, lens, turns) {
+        Answer::Plan {
+            stations: n,
+            stocks: s,
+            turns: t,
+        } => {
+            let stations = n as usize;
+            *told = [stations, s, t];
+            0
+        }
+        Answer::Refused { fault: f, place: p } => with_place(f, p),
+    }
 }

@@ -1,27 +1,39 @@
 -- `gang::plan_call::gang_read_plan` meets its contract: what it returns and writes is what the answer tells. Assumes nothing.
-use mathlib.Core.Path.{ap, _∙_}
-use native.Mathlib.Omega.{arith}
 use borrow.Author.Needs.{needs}
-use Rattle.text.specs.Refusal.{Told, returned}
-use Rattle.text.specs.Buffers.{countsAfter}
 use Rattle.text.proofs.Answers.{returned-most}
+use Rattle.gang.proofs.Telling.{taken-number, taken-counts, refused-number, refused-fits, refused-kept}
 use Rattle.gang.proofs.plan_call.gang_read_plan.Statement.{statement}
 use Rattle.gang.proofs.plan_call.gang_read_plan.Tie as tie
 
 read-plan-requires : tie.Need-read-plan-requires
 read-plan-requires c κs = search needs
 
-hand-back-requires : tie.Need-hand-back-requires
-hand-back-requires c κs =
-    let a = c .before .before .before .before .before .before .before .args in
-    omega (arith, ap returned (c .before .read-plan .ensures .0), returned-most (a .text .now))
+enum-known-n : tie.Need-enum-known-n
+enum-known-n c = search needs
+
+cast-stations : tie.Need-cast-stations
+cast-stations c = search needs
+
+enum-known-f : tie.Need-enum-known-f
+enum-known-f c = search needs
+
+with-place-requires : tie.Need-with-place-requires
+with-place-requires c κs = search (refused-fits, returned-most, needs)
 
 returns : tie.Need-returns
-returns c =
-    let a = c .before .before .before .before .before .before .before .before .before .args in
-    let read = c .before .before .before .read-plan .ensures in
-    let out = c .before .hand-back .ensures in
-    (out .0 ∙ ap returned (read .0), (out .1 ∙ ap (λ (t : Told). countsAfter t (a .told .now)) (read .0), read .1))
+returns c = (search (taken-number, needs), (search (taken-counts, needs), (search needs, (search needs, (search needs, search needs)))))
+
+returns-2 : tie.Need-returns-2
+returns-2 c = (search (refused-number, needs), (search (refused-kept, needs), (search needs, (search needs, (search needs, search needs)))))
 
 pub gang-read-plan-spec : {M : Type 1} → statement M
-gang-read-plan-spec = tie.close (tie.spec read-plan-requires hand-back-requires returns)
+gang-read-plan-spec =
+    tie.close
+    (tie.spec
+    read-plan-requires
+    enum-known-n
+    cast-stations
+    enum-known-f
+    with-place-requires
+    returns
+    returns-2)
