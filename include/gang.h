@@ -47,7 +47,7 @@ extern "C" {
 #define GANG_LONG_TEXT 11      /* more than GANG_MOST_TEXT_BYTES */
 #define GANG_BAD_FIRST_LINE 12 /* no line 1, or it is not GANG and one number from 1 to GANG_MOST_STATIONS */
 #define GANG_STRAY_BYTE 13     /* a byte that is neither a tab nor from 20 to 7E hex */
-#define GANG_OTHER_WORD 14     /* a later line that begins with no word of a plan */
+#define GANG_OTHER_WORD 14     /* a later line that begins with neither HAS nor TURN */
 #define GANG_FEW_FIELDS 15     /* HAS with fewer than two fields behind it, or TURN with none */
 #define GANG_BAD_STATION 16    /* a station that is no number from 1 to n */
 #define GANG_BAD_CODE 17       /* a code field of more than GANG_MOST_CODE_BYTES, or of nothing but spaces */

@@ -3,7 +3,7 @@ use Prim.Native.Nat.{ℕ, _+_, _-_, _≤_}
 use mathlib.Core.Path.{_≡_, sym}
 use mathlib.Core.List.{List}
 use native.Mathlib.Omega.{arith}
-use lib.ListN.{length, take, length-take, length-drop}
+use lib.ListN.{length, length-take, length-drop}
 use lib.Seq.{length-take-le}
 use borrow.Rule.Slice.PartMut.{midOf, putMid, same-len-mid}
 use Rattle.io.specs.Counts.{Counts}
@@ -20,8 +20,13 @@ filled-more {at} {text} {start} n ys f e h =
     let part : length (midOf at (length text - at) text) ≤ length text - at = simp (length-take, length-drop) (omega arith) in
     record { within = omega (arith, f .within, long, part, h); long = omega (arith, f .long, long) }
 
-pub filled-on : {at : ℕ} {text start : List ℕ} (ys : List ℕ) → Filled at text start → length ys ≡ length (midOf at (length text - at) text) → Filled at (putMid at (length text - at) text ys) start
-filled-on {at} {text} ys f e = let g = filled-more 0 ys f e (omega arith) in record { within = omega (arith, g .within); long = g .long }
+-- none of it: what stood in front stands there still
+module _ {at : ℕ} {text start : List ℕ} (ys : List ℕ) (f : Filled at text start) (e : length ys ≡ length (midOf at (length text - at) text)) where
+  kept : Filled (at + 0) (putMid at (length text - at) text ys) start
+  kept = filled-more 0 ys f e (omega arith)
 
-pub filled-count : {at : ℕ} {text start : List ℕ} → Filled at text start → Counts at text
-filled-count {at} {text} f = (f .within, sym (length-take-le at text (f .within)))
+  pub kept-long : length (putMid at (length text - at) text ys) ≡ length start
+  kept-long = kept .long
+
+  pub kept-count : Counts at (putMid at (length text - at) text ys)
+  kept-count = let w : at ≤ length (putMid at (length text - at) text ys) = omega (arith, kept .within) in (w, sym (length-take-le at _ w))

@@ -1,5 +1,5 @@
--- A station's steps: MODEL 3 to 5, the last first. A station's row alone says its next operation, and the row with what the operation brought
--- says the next row. `i` is the station's number and `N` the number of levels.
+-- A station's steps: MODEL 3 to 5, each below those that it leads to. A station's row alone says its next operation, and the row with what the
+-- operation brought says the next row. `i` is the station's number and `N` the number of levels.
 use Prim.Native.Nat.{ℕ, _+_}
 use mathlib.Core.Bool.{Bool, true, false, cond, _||_}
 use lib.Dec.{ltb, eqb}

@@ -10,9 +10,10 @@ use Rattle.text.specs.Limits.{mostStocks, mostTurns, mostCode}
 use Rattle.text.specs.declared.Fault.{Fault}
 use Rattle.text.specs.declared.Answer.{Answer}
 use Rattle.text.specs.declared.Answer.the-variants.{Plan, Refused}
-use Rattle.text.specs.Refusal.{counts, refusal, numberOf, told}
+use Rattle.text.specs.Refusal.{numberOf, told}
 use Rattle.text.specs.Buffers.{zeros, padded, cellsOf, toldOf, setsAfter, codesAfter, lensAfter, turnsAfter}
 use Rattle.text.specs.Plan.{Held, Reading, plan, refused, reading}
+use Rattle.text.proofs.Answers.{counts-told, refusal-told}
 use Rattle.text.proofs.Lengths.{padded-long}
 use Rattle.report.specs.declared.Printed.{Printed}
 use Rattle.page.specs.Lines.{refusalLine}
@@ -63,34 +64,26 @@ pub record ReadOff (text : List ℕ) (n stocks turned : ℕ) (sets cells lens tu
 pub read-off : (text : List ℕ) (r : Answer) (n stocks turned : ℕ) (sets cells lens turns a b c d : List ℕ) → r ≡ Plan n stocks turned → told r ≡ toldOf (reading text)
     → sets ≡ setsAfter (reading text) a → cells ≡ codesAfter (reading text) b → lens ≡ lensAfter (reading text) c → turns ≡ turnsAfter (reading text) d
     → ReadOff text n stocks turned sets cells lens turns
-read-off text r n stocks turned sets cells lens turns a b c d e f g h i j = go (reading text) refl (sym (ap told e) ∙ f) g h i j
-  where
-    go : (o : Reading) → reading text ≡ o → counts n stocks turned ≡ toldOf o → sets ≡ setsAfter o a → cells ≡ codesAfter o b → lens ≡ lensAfter o c → turns ≡ turnsAfter o d
-        → ReadOff text n stocks turned sets cells lens turns
-    go (plan h) o f g x y z =
-        record { of = h; read = o; stations = sym (counts-0 f); many = sym (counts-1 f); made = sym (counts-2 f); sets-are = g; cells-are = x; lens-are = y; turns-are = z }
-      where
-        counts-0 : counts n stocks turned ≡ counts (h .stations) (length (h .stocks .codes)) (length (h .turns)) → n ≡ h .stations
-        counts-0 e = cc
-
-        counts-1 : counts n stocks turned ≡ counts (h .stations) (length (h .stocks .codes)) (length (h .turns)) → stocks ≡ length (h .stocks .codes)
-        counts-1 e = cc
-
-        counts-2 : counts n stocks turned ≡ counts (h .stations) (length (h .stocks .codes)) (length (h .turns)) → turned ≡ length (h .turns)
-        counts-2 e = cc
-    go (refused fault place) o f g x y z = absurd (let w : _≡_ {A = ℕ} 0 1 = cc in omega arith)
+read-off text r n stocks turned sets cells lens turns a b c d e f g h i j =
+    let p = counts-told text n stocks turned (sym (ap told e) ∙ f) in
+    record {
+      of = p .holds;
+      read = p .is;
+      stations = sym (p .stations);
+      many = sym (p .stocks);
+      made = sym (p .turns);
+      sets-are = g ∙ ap (λ (o : Reading). setsAfter o a) (p .is);
+      cells-are = h ∙ ap (λ (o : Reading). codesAfter o b) (p .is);
+      lens-are = i ∙ ap (λ (o : Reading). lensAfter o c) (p .is);
+      turns-are = j ∙ ap (λ (o : Reading). turnsAfter o d) (p .is);
+    }
 
 -- the refusal that was read
 pub refused-off : (text : List ℕ) (r : Answer) (fault : Fault) (place : ℕ) → r ≡ Refused fault place → told r ≡ toldOf (reading text)
     → (f : Fault) × (reading text ≡ refused f place) × (numberOf fault ≡ numberOf f)
-refused-off text r fault place e t = go (reading text) refl (sym (ap told e) ∙ t)
-  where
-    go : (o : Reading) → reading text ≡ o → refusal (numberOf fault) place ≡ toldOf o → (f : Fault) × (reading text ≡ refused f place) × (numberOf fault ≡ numberOf f)
-    go (plan h) o f = absurd (let w : _≡_ {A = ℕ} 0 1 = cc in omega arith)
-    go (refused f p) o t =
-        let same : place ≡ p = cc in
-        let number : numberOf fault ≡ numberOf f = cc in
-        (f, o ∙ ap (refused f) (sym same), number)
+refused-off text r fault place e t =
+    let g = refusal-told text (numberOf fault) place (sym (ap told e) ∙ t) in
+    (g .fault, g .is, g .number-is)
 
 module _ {text : List ℕ} {n stocks turned : ℕ} {sets cells lens turns : List ℕ} (r : ReadOff text n stocks turned sets cells lens turns) where
   sound : Sound (r .of)

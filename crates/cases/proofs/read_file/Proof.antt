@@ -1,4 +1,4 @@
-use Rattle.input.proofs.Taking.{whole-counts}
+use Rattle.input.proofs.Taking.{whole-within, whole-long}
 use borrow.Author.Needs.{needs}
 use Rattle.cases.proofs.read_file.Statement.{statement}
 use Rattle.cases.proofs.read_file.Tie as tie
@@ -34,9 +34,7 @@ same-length : tie.Need-same-length
 same-length c = search needs
 
 returns-2 : tie.Need-returns-2
-returns-2 c =
-    let read = c .before .before .before .before .before .before .read-all in
-    whole-counts (read .result) _ (read .last .1 .0) (c .before .before .got .given .1) (read .ensures)
+returns-2 c = (search (whole-within, needs), search (whole-long, needs))
 
 same-length-2 : tie.Need-same-length-2
 same-length-2 c = search needs

@@ -1,4 +1,4 @@
-use Rattle.input.proofs.Taking.{whole-counts}
+use Rattle.input.proofs.Taking.{whole-within, whole-long}
 use borrow.Author.Needs.{needs}
 use Rattle.gangrun.proofs.main.Statement.{statement}
 use Rattle.gangrun.proofs.main.Tie as tie
@@ -16,14 +16,10 @@ enum-known-got : tie.Need-enum-known-got
 enum-known-got c = search needs
 
 array-share-prefix-text : tie.Need-array-share-prefix-text
-array-share-prefix-text c =
-    let read = c .before .before .before .before .read-all in
-    whole-counts (read .result) _ (read .last .1 .0) (c .before .got .given .1) (read .ensures) .0
+array-share-prefix-text c = search (whole-within, needs)
 
 slice-aggregate-print-report : tie.Need-slice-aggregate-print-report
-slice-aggregate-print-report c =
-    let read = c .before .before .before .before .before .read-all in
-    whole-counts (read .result) _ (read .last .1 .0) (c .before .before .got .given .1) (read .ensures) .1
+slice-aggregate-print-report c = search (whole-long, needs)
 
 print-report-requires : tie.Need-print-report-requires
 print-report-requires c κs = search needs

@@ -4,7 +4,7 @@ use mathlib.Core.Path.{refl, ap}
 use native.Mathlib.Omega.{arith}
 use borrow.Author.Needs.{needs}
 use Rattle.input.specs.Within.{brought}
-use Rattle.input.proofs.Filling.{Filled, filled-more, filled-on, filled-count}
+use Rattle.input.proofs.Filling.{Filled, filled-more, kept-long, kept-count}
 use Rattle.input.proofs.read_all.Statement.{statement}
 use Rattle.input.proofs.read_all.Tie as tie
 
@@ -39,22 +39,16 @@ enum-told : tie.Need-enum-told Inv-loop μ-loop
 enum-told c = search needs
 
 same-length : tie.Need-same-length Inv-loop μ-loop
-same-length c =
-    let read = c .before .before .before .before .read-some in
-    filled-on (read .last .1 .0) (c .before .before .before .before .before .before .before .loop .inv) (read .kept .1 .0) .long
+same-length c = search (kept-long, needs)
 
 returns : tie.Need-returns Inv-loop μ-loop
-returns c =
-    let read = c .before .before .before .before .read-some in
-    filled-count (filled-on (read .last .1 .0) (c .before .before .before .before .before .before .before .loop .inv) (read .kept .1 .0))
+returns c = search (kept-count, needs)
 
 enum-told-2 : tie.Need-enum-told-2 Inv-loop μ-loop
 enum-told-2 c = search needs
 
 same-length-2 : tie.Need-same-length-2 Inv-loop μ-loop
-same-length-2 c =
-    let read = c .before .before .before .before .read-some in
-    filled-on (read .last .1 .0) (c .before .before .before .before .before .before .before .loop .inv) (read .kept .1 .0) .long
+same-length-2 c = search (kept-long, needs)
 
 returns-2 : tie.Need-returns-2 Inv-loop μ-loop
 returns-2 c = tt

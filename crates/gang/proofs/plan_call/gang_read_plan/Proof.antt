@@ -1,7 +1,7 @@
 -- `gang::plan_call::gang_read_plan` meets its contract: what it returns and writes is what the answer tells. Assumes nothing.
 use borrow.Author.Needs.{needs}
 use Rattle.text.proofs.Answers.{returned-most}
-use Rattle.gang.proofs.Telling.{taken-number, taken-counts, refused-number, refused-fits, refused-kept}
+use Rattle.gang.proofs.Telling.{number-is, number-fits, counts-are}
 use Rattle.gang.proofs.plan_call.gang_read_plan.Statement.{statement}
 use Rattle.gang.proofs.plan_call.gang_read_plan.Tie as tie
 
@@ -18,13 +18,13 @@ enum-known-f : tie.Need-enum-known-f
 enum-known-f c = search needs
 
 with-place-requires : tie.Need-with-place-requires
-with-place-requires c κs = search (refused-fits, returned-most, needs)
+with-place-requires c κs = search (number-fits, returned-most, needs)
 
 returns : tie.Need-returns
-returns c = (search (taken-number, needs), (search (taken-counts, needs), (search needs, (search needs, (search needs, search needs)))))
+returns c = (search (number-is, needs), (search (counts-are, needs), (search needs, (search needs, (search needs, search needs)))))
 
 returns-2 : tie.Need-returns-2
-returns-2 c = (search (refused-number, needs), (search (refused-kept, needs), (search needs, (search needs, (search needs, search needs)))))
+returns-2 c = (search (number-is, needs), (search (counts-are, needs), (search needs, (search needs, (search needs, search needs)))))
 
 pub gang-read-plan-spec : {M : Type 1} → statement M
 gang-read-plan-spec =
