@@ -1,6 +1,7 @@
 /* Compares the proved reader with the plain one: on random plans, half of them damaged, and on the vectors where they are given.
    plan_check SEED COUNT [FILE ..]    compares, and says how many were taken and how often each refusal was given
-   plan_check figure WHICH            reads one text, as long as may be and with as many turns, by the reader `ours` or `plain`, for callgrind */
+   plan_check figure TEXT WHICH       reads one text by the reader `ours` or `plain`, for callgrind: `full`, as long as may be and with as many turns,
+                                      `padded`, the same with every code padded to 20 bytes, or a number: a code field of so many spaces */
 #include "gang.h"
 #include "plan_plain.h"
 
@@ -35,22 +36,43 @@ static void put_number(unsigned n)
     put(s);
 }
 
-static void put_code(unsigned kinds)
+/* A code, and spaces behind it up to a width. */
+static void put_padded(const char *code, size_t width)
+{
+    size_t end = size + width;
+    put(code);
+    while (size < end && size + 1 < sizeof text)
+        put(" ");
+}
+
+/* How the codes of a plan are padded: not, as the clerk's export pads them, or each as it comes. */
+enum padding { BARE, EXPORTED, MIXED };
+#define EXPORT_WIDTH 20
+#define MOST_WIDTH 40
+
+static void put_code(unsigned kinds, enum padding padding)
 {
     static const char *front[] = {"", " ", "K", "KR", "  X", "LONGPREFIX"};
     char s[40];
     unsigned k = draw(kinds);
     snprintf(s, sizeof s, "%s%u", front[k % 6], k);
-    put(s);
-    for (unsigned pad = draw(4) ? 0 : draw(5); pad > 0 && strlen(s) < GANG_MOST_CODE_BYTES; pad--) {
-        put(" ");
-        strcat(s, " ");
-    }
+    put_padded(s, padding == BARE ? 0 : padding == EXPORTED ? EXPORT_WIDTH : 1 + draw(MOST_WIDTH));
+}
+
+/* A field at the edge of what a code may be: no byte to 14 of them, and spaces. */
+static void put_odd_code(void)
+{
+    char s[16] = "ABCDEFGHIJKLMN";
+    s[draw(15)] = 0;
+    if (draw(4) == 0)
+        memset(s, ' ', draw((unsigned)strlen(s) + 1));
+    put_padded(s, 1 + draw(MOST_WIDTH));
 }
 
 static void make_plan(void)
 {
     unsigned n = 1 + draw(GANG_MOST_STATIONS), lines = draw(12), kinds = draw(8) ? 1 + draw(60) : 120, wide = draw(10) ? 12 : 700;
+    enum padding padding = (enum padding)draw(3);
     size = 0;
     put("GANG\t");
     put_number(n);
@@ -62,7 +84,7 @@ static void make_plan(void)
             put_number(1 + draw(n));
             while (fields-- > 0) {
                 put("\t");
-                put_code(kinds);
+                put_code(kinds, padding);
             }
         } else {
             put("TURN");
@@ -82,7 +104,7 @@ static void damage(void)
     static const char *tails[] = {"\n\n", "\nGANG\t1", "\nHAS\t1", "\nHAS\t1\t", "\nTURN", "\nTURN\t", "\nTURN\t0", "\nTURN\t01", "\nTURN\t17",
                                   "\nTURN\t4294967297", "\nHAS\t1\t   ", "\nHAS\t1\tABCDEFGHIJKLM", "\nHAS\t1\tABCDEFGHIJKL", "\nOUT\t1", "\nTURN \t1", "\n \t1",
                                   "\nHAS\t\tA", "\nHAS\t1\tA\t\tB", "\nTURN\t1 ", "\nTURN\t+1", "\nTURN\t18446744073709551617"};
-    switch (draw(6)) {
+    switch (draw(7)) {
     case 0:
         if (size > 0)
             text[draw((unsigned)size)] = (unsigned char)draw(256);
@@ -108,6 +130,13 @@ static void damage(void)
         break;
     case 4:
         put(tails[draw(sizeof tails / sizeof *tails)]);
+        break;
+    case 5:
+        put("\nHAS\t1");
+        for (unsigned fields = 1 + draw(3); fields > 0; fields--) {
+            put("\t");
+            put_odd_code();
+        }
         break;
     default:
         switch (draw(4)) {
@@ -256,8 +285,8 @@ static int compare_stored(const char *name)
     return count > 0;
 }
 
-/* As long a text as may be, with as many turns; HAS lines with codes of 60 stocks and one more fill what the turns leave. */
-static void figure_text(void)
+/* As long a text as may be, with as many turns; HAS lines with codes of 60 stocks, padded to the width, and one more fill what the turns leave. */
+static void full_text(size_t width)
 {
     const size_t most = GANG_MOST_TEXT_BYTES;
     unsigned k = 0;
@@ -271,46 +300,60 @@ static void figure_text(void)
     while (size < most - 40) {
         put("\nHAS\t");
         put_number(1 + k % GANG_MOST_STATIONS);
-        for (unsigned c = 0; c < 16 && size < most - 20; c++) {
-            put("\tSTOCK-");
-            put_number(10 + k++ % 60);
+        for (unsigned c = 0; c < 16 && size < most - EXPORT_WIDTH; c++) {
+            char code[16];
+            snprintf(code, sizeof code, "STOCK-%u", 10 + k++ % 60);
+            put("\t");
+            put_padded(code, width);
         }
     }
-    while (size < most - 10)
+    while (width == 0 && size < most - 10)
         put("\tSTOCK-10");
     if (size < most - 1) {
-        put("\t");
+        put("\tA");
         while (size < most)
-            put("A");
+            put(width > 0 ? " " : "A");
     }
     if (size < most)
         put("\n");
 }
 
-static int figure(const char *which)
+static void spaces_text(size_t spaces)
+{
+    size = 0;
+    put("GANG\t1\nHAS\t1\t");
+    put_padded("", spaces);
+}
+
+/* Reads the text; fails where it is not read as it must be. */
+static int figure(const char *what, const char *which)
 {
     static struct lent ours;
     static struct plain_plan plan;
-    size_t turns, place;
-    unsigned no;
-    figure_text();
-    if (strcmp(which, "ours") == 0) {
-        no = gang_read_plan(text, size, ours.sets, ours.codes, ours.lens, ours.turns, ours.told);
-        turns = ours.told[GANG_TOLD_TURNS];
-    } else {
-        no = plain_read(text, size, &plan, &place);
-        turns = plan.turns;
+    size_t place;
+    unsigned no, want = GANG_DONE;
+    if (strcmp(what, "full") == 0)
+        full_text(0);
+    else if (strcmp(what, "padded") == 0)
+        full_text(EXPORT_WIDTH);
+    else {
+        spaces_text(strtoul(what, NULL, 10));
+        want = GANG_BAD_CODE;
     }
-    printf("%zu bytes: %u, %zu turns\n", size, no, turns);
-    return no != 0;
+    if (strcmp(which, "ours") == 0)
+        no = GANG_REFUSAL(gang_read_plan(text, size, ours.sets, ours.codes, ours.lens, ours.turns, ours.told));
+    else
+        no = plain_read(text, size, &plan, &place);
+    printf("%zu bytes: %u\n", size, no);
+    return no != want;
 }
 
 int main(int argc, char **argv)
 {
     unsigned long count;
     int alike = 1;
-    if (argc == 3 && strcmp(argv[1], "figure") == 0)
-        return figure(argv[2]);
+    if (argc == 4 && strcmp(argv[1], "figure") == 0)
+        return figure(argv[2], argv[3]);
     if (argc < 3)
         return 2;
     seed = strtoull(argv[1], NULL, 10);

@@ -47,11 +47,9 @@ static unsigned number(struct field f, unsigned most)
 static unsigned take_code(struct plain_plan *plan, unsigned station, struct field f)
 {
     unsigned k;
-    if (f.size > GANG_MOST_CODE_BYTES)
-        return 17;
     while (f.size > 0 && f.start[f.size - 1] == ' ')
         f.size--;
-    if (f.size == 0)
+    if (f.size == 0 || f.size > GANG_MOST_CODE_BYTES)
         return 17;
     for (k = 0; k < plan->stocks; k++)
         if (plan->length[k] == f.size && memcmp(plan->code[k], f.start, f.size) == 0)

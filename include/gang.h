@@ -21,7 +21,7 @@ extern "C" {
 #define GANG_MOST_STOCKS 64
 #define GANG_MOST_TURNS 4096
 #define GANG_MOST_TEXT_BYTES 32768
-#define GANG_MOST_CODE_BYTES 12
+#define GANG_MOST_CODE_BYTES 12 /* without the spaces at its end */
 
 /* What a call returns: GANG_DONE, or a refusal's number and 100 times its place. */
 #define GANG_DONE 0
@@ -50,7 +50,7 @@ extern "C" {
 #define GANG_OTHER_WORD 14     /* a later line that begins with neither HAS nor TURN */
 #define GANG_FEW_FIELDS 15     /* HAS with fewer than two fields behind it, or TURN with none */
 #define GANG_BAD_STATION 16    /* a station that is no number from 1 to n */
-#define GANG_BAD_CODE 17       /* a code field of more than GANG_MOST_CODE_BYTES, or of nothing but spaces */
+#define GANG_BAD_CODE 17       /* without the spaces at its end, a code of more than GANG_MOST_CODE_BYTES or of none */
 #define GANG_MORE_STOCKS 18    /* one stock more than GANG_MOST_STOCKS */
 #define GANG_MORE_TURNS 19     /* one turn more than GANG_MOST_TURNS */
 

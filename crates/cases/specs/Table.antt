@@ -86,10 +86,15 @@ cases =
     -- H: "no turns": "no station has begun"
     ∷ calls 3 (own 3) [] 0 (row 0 0 0 0 ++ row 0 0 0 0 ++ row 0 0 0 0 ++ past)
     ∷ prints "GANG\t2\n" "RUN\t2\t0\t0\nST\t1\t0\t0\t-\t-\nST\t2\t0\t0\t-\t-\n"
-    -- I: "a code field of 12 bytes; of 13; of one space": "taken; 17; 17"
+    -- I: "a code of 12 bytes; of 12 and eight spaces, beside the 12 alone": "taken; taken, and one stock"
     ∷ prints "GANG\t1\nHAS\t1\tABCDEFGHIJKL\n" "RUN\t1\t0\t0\nSTOCK\t0\tABCDEFGHIJKL\nST\t1\t0\t0\t-\t-\n"
+    ∷ prints "GANG\t2\nHAS\t1\tABCDEFGHIJKL        \nHAS\t2\tABCDEFGHIJKL\nTURN\t1\t1\t1\t1\t1\t2\t2\t2\t2\t2\n"
+    "RUN\t2\t10\t0\nSTOCK\t0\tABCDEFGHIJKL\nST\t1\t2\t5\t0001\t0000000000000001\nST\t2\t2\t5\t0003\t0000000000000001\n"
+    -- "of 13; of 13 and seven spaces; of one space; of twenty": "17; 17; 17; 17"
     ∷ prints "GANG\t1\nHAS\t1\tABCDEFGHIJKLM\n" "NO\t17\t2\n"
+    ∷ prints "GANG\t1\nHAS\t1\tABCDEFGHIJKLM       \n" "NO\t17\t2\n"
     ∷ prints "GANG\t1\nHAS\t1\t \n" "NO\t17\t2\n"
+    ∷ prints "GANG\t1\nHAS\t1\t                    \n" "NO\t17\t2\n"
     ∷ []
 
 -- what comes of a case: a number and bytes; a plan has no number

@@ -1,2 +1,3 @@
--- The window on the text.
+-- The window on the text, and the length of a code in it.
 pub mod Window
+pub mod Measure

@@ -1,67 +1,45 @@
--- A code field: over 12 bytes or blank it is refused, and else what is left of it is a code.
+-- A code field: where it has no code it is refused, and else its code is a stock.
 use Prim.Native.Nat.{ℕ, _+_, _-_, _≤_, _<_}
-use mathlib.Core.Path.{_≡_, refl, sym, ap, _∙_, subst}
-use mathlib.Core.Bool.{true, false, cond}
-use mathlib.Core.List.{List, [], _∷_}
+use mathlib.Core.Path.{_≡_, sym, subst}
+use mathlib.Core.List.{List}
 use native.Mathlib.Omega.{arith}
-use lib.ListN.{length, take}
-use borrow.Author.Tests.{le-leb, lt-leb}
+use lib.ListN.{length}
 use Rattle.text.specs.Limits.{mostCode}
-use Rattle.text.specs.Number.{empty}
-use Rattle.text.specs.Code.{codeOf}
 use Rattle.text.specs.Plan.{Out, taken, no, code, Holding, holding, addStock, takeCode}
 use Rattle.fields.specs.Window.{part}
+use Rattle.fields.specs.Measure.{lengthOf}
 use Rattle.plan.specs.Hand.{codesIn, Table, CodedRead}
 use Rattle.plan.specs.declared.Coded.{Coded}
 use Rattle.plan.specs.declared.Coded.the-variants.{Stocks, Refused}
 use Rattle.text.specs.declared.Fault.{Fault}
 use Rattle.text.specs.declared.Fault.the-variants.{BadCode}
-use Rattle.text.proofs.Codes.{code-front, code-short}
+use Rattle.fields.proofs.Measured.{no-code, a-code, within}
 use Rattle.plan.proofs.Windows.{part-length, part-front}
 
-module _ (h : Holding) (f : List ℕ) where
-  pub code-long : mostCode < length f → no BadCode ≡ takeCode h f
-  unfolding takeCode code
-  code-long l = sym (rw (lt-leb (length f) mostCode l))
-
-  short-code : length f ≤ mostCode → code f ≡ cond (empty (codeOf f)) (no BadCode) (taken (codeOf f))
-  unfolding code
-  short-code l = rw (le-leb (length f) mostCode l)
-
-  pub code-blank : length f ≤ mostCode → length (codeOf f) ≡ 0 → no BadCode ≡ takeCode h f
-  unfolding takeCode
-  code-blank l z = sym (rw (short-code l, nothing (codeOf f) z))
-    where
-      nothing : (c : List ℕ) → length c ≡ 0 → empty c ≡ true
-      nothing [] z = refl
-      nothing (b ∷ c) z = absurd (omega arith)
-
-  pub code-left : length f ≤ mostCode → (length (codeOf f) ≡ 0 → ⊥) → takeCode h f ≡ addStock h (codeOf f)
-  unfolding takeCode
-  code-left l s = rw (short-code l, something (codeOf f) s)
-    where
-      something : (c : List ℕ) → (length c ≡ 0 → ⊥) → empty c ≡ false
-      something [] s = absurd (s refl)
-      something (b ∷ c) s = refl
-
-module _ (text : List ℕ) (at end : ℕ) (window : at ≤ end) (inside : end ≤ length text) where
-  pub field-length : length (part text at end) ≡ end - at
-  field-length = part-length text at end inside
-
-  -- what is left of the field, as a part of the text
-  pub code-part : (n : ℕ) → n ≡ length (codeOf (part text at end)) → codeOf (part text at end) ≡ part text at (at + n)
-  code-part n e =
-      let m = code-short (part text at end) in
-      let f : length (part text at end) ≡ end - at = field-length in
-      code-front (part text at end)
-      ∙ ap (λ (k : ℕ). take k (part text at end)) (sym e)
-      ∙ part-front text at end inside n (omega arith)
-
-  pub code-most : (n : ℕ) → n ≡ length (codeOf (part text at end)) → at + n ≤ end
-  code-most n e =
-      let m = code-short (part text at end) in
-      let f : length (part text at end) ≡ end - at = field-length in
+-- the field from `at` to `end`, whose code has n bytes
+module _ (text : List ℕ) (at end : ℕ) (starts-at : at ≤ end) (ends : end ≤ length text) (n : ℕ) (size : n ≡ lengthOf (code (part text at end))) where
+  code-ends : at + n ≤ end
+  code-ends =
+      let l : length (part text at end) ≡ end - at = part-length text at end ends in
+      let m = within (part text at end) n size in
       omega arith
+
+  pub code-inside : at + n ≤ length text
+  code-inside = omega (arith, code-ends)
+
+  pub code-room : (m : ℕ) → length text < m → at + n < m
+  code-room m h = omega (arith, code-ends)
+
+  pub code-fits : at + n ≤ at + mostCode
+  code-fits = let m = within (part text at end) n size in omega arith
+
+  pub code-refused : (h : Holding) → n ≡ 0 → no BadCode ≡ takeCode h (part text at end)
+  unfolding takeCode
+  code-refused h z = sym (rw (no-code (part text at end) n size z))
+
+  pub code-taken : (h : Holding) → (n ≡ 0 → ⊥) → addStock h (part text at (at + n)) ≡ takeCode h (part text at end)
+  unfolding takeCode
+  code-taken h s = sym (rw (a-code (part text at end) n size s, part-front text at end ends n code-ends))
 
 -- ---- a result of a known kind
 

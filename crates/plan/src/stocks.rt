@@ -14,7 +14,6 @@ use super::compare::same;
 use fields::code::code_len;
 use fields::number::number;
 use fields::reader::field_end;
-use sets::limits::CODE;
 use sets::limits::STATIONS;
 use sets::limits::STOCKS;
 use text::Fault;
@@ -122,9 +121,6 @@ fn take_code(
     requires { ⌜ Listed (now text) at end (now starts) (now lens) (now keys) count ⌝ }
     ensures { λ r. ⌜ CodedRead r (now (text .entry)) (now (starts .exit)) (now (lens .exit)) (now (keys .exit)) (takeCode (holding (codesIn (now (text .entry)) (now (starts .entry)) (now (lens .entry)) count) set) (part (now (text .entry)) at end)) ⌝ }
 {
-    if end - at > CODE {
-        return Coded::Refused(Fault::BadCode);
-    }
     let n = code_len(&text[at..end]);
     if n == 0 {
         return Coded::Refused(Fault::BadCode);

@@ -2,5 +2,6 @@
 mod Counting
 pub mod Handing
 mod Running
+pub mod SameReports
 pub mod Sizes
 mod Printing

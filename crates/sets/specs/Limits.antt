@@ -14,6 +14,6 @@ mostTurns = 4096
 abbrev pub mostBytes : ℕ
 mostBytes = 32768
 
--- "bytes of a code field, with its spaces"
+-- "bytes of a code, without the spaces at its end"
 abbrev pub mostCode : ℕ
 mostCode = 12

@@ -17,7 +17,7 @@ pub const TURNS: usize = 4096;
 // Bytes of a plan text.
 pub const BYTES: usize = 32768;
 
-// Bytes of a code field, spaces counted.
+// Bytes of a code, without the spaces at its end.
 pub const CODE: usize = 12;
 
 // Bytes of the cells for all codes.

@@ -20,13 +20,12 @@ use Rattle.text.specs.Text.{LF, space, joined, parted, linesOf, fieldsOf
 use Rattle.text.specs.Number.{empty, numberTo}
 use Rattle.text.specs.Code.{before, codeOf, stockOf}
 use Rattle.text.specs.Refusal.{numberOf}
-use Rattle.text.specs.Plan.{Out, taken, no, then, each, stationIn, station, takeTurn, code, Holding, holding, withStock, addStock, takeCode, Stocked, hasLine, turnLine, Held, fresh, GANG, wordOf, wordLine, laterFields, laterLine, gangIn, gangOf, firstLine, Reading, plan, refused, atLine, laterLines, allLines, sized, reading}
+use Rattle.text.specs.Plan.{Out, taken, no, then, each, stationIn, station, takeTurn, codeIn, code, Holding, holding, withStock, addStock, takeCode, Stocked, hasLine, turnLine, Held, fresh, GANG, wordOf, wordLine, laterFields, laterLine, gangIn, gangOf, firstLine, Reading, plan, refused, atLine, laterLines, allLines, sized, reading}
 use Rattle.text.specs.Sound.{endsInSpace, GoodCode, GoodCodes, GoodStocks, GoodTurns, Sound, Outcome, planned, long, stopped}
 use Rattle.text.specs.declared.Word.{Word}
 use Rattle.text.specs.declared.Word.the-variants.{Has, Turn, Other}
 use Rattle.text.specs.declared.Fault.{Fault}
 use Rattle.text.specs.declared.Fault.the-variants.{LongText, BadFirstLine, StrayByte, OtherWord, FewFields, BadStation, BadCode, MoreStocks, MoreTurns}
-use Rattle.text.proofs.Codes.{code-short}
 use Rattle.text.proofs.Pieces.{run-most}
 use Rattle.text.proofs.Numbers.{number-most}
 use Rattle.text.proofs.Runs.{same-self}
@@ -115,21 +114,14 @@ code-solid (b ∷ f) = solid-before b (codeOf f) (code-solid f)
 
 code-holds : (f : List ℕ) → Holds GoodCode (code f)
 unfolding code numberOf
-code-holds f =
-    cond-holds GoodCode (leb (length f) mostCode) (cond (empty (codeOf f)) (no BadCode) (taken (codeOf f))) (no BadCode)
-    (λ t. cond-holds GoodCode (empty (codeOf f)) (no BadCode) (taken (codeOf f))
-    (λ e. (omega arith, omega arith))
-    (λ e.
-    record {
-      least = some (codeOf f) e;
-      most = omega (arith, code-short f, leb-true (length f) mostCode t);
-      solid = code-solid f;
-    }))
-    (λ t. (omega arith, omega arith))
+code-holds f = sized-holds (codeOf f) (code-solid f)
   where
-    some : (c : List ℕ) → empty c ≡ false → 1 ≤ length c
-    some [] e = absurd (true≢false e)
-    some (b ∷ c) e = omega arith
+    sized-holds : (c : List ℕ) → endsInSpace c ≡ false → Holds GoodCode (codeIn c)
+    sized-holds [] s = (omega arith, omega arith)
+    sized-holds (b ∷ c) s =
+        cond-holds GoodCode (leb (length (b ∷ c)) mostCode) (taken (b ∷ c)) (no BadCode)
+        (λ t. record { least = omega arith; most = leb-true (length (b ∷ c)) mostCode t; solid = s })
+        (λ t. (omega arith, omega arith))
 
 -- ---- stocks
 

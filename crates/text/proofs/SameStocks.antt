@@ -1,16 +1,15 @@
--- Demand 2: two plans that differ only in spaces at the end of codes, within the 12 bytes, give the same stations, stocks and turns, and
--- are refused alike. The theorem is `same-reading`.
+-- Demand 2: two plans that differ only in how many spaces stand behind codes give the same stations, stocks and turns, and are refused
+-- alike. The theorem is `same-reading`.
 use Prim.Native.Nat.{ℕ, zero, suc, _-_, _≤_}
 use mathlib.Core.Path.{_≡_, refl, sym, ap, _∙_}
 use mathlib.Core.Bool.{Bool, true, false, cond, _&&_, and-true, and-assoc}
 use mathlib.Core.List.{List, [], _∷_, _++_, append-assoc, append-nil}
 use lib.ListN.{length, getD, set}
 use lib.Dec.{eqb}
-use borrow.Author.Tests.{le-leb}
-use Rattle.text.specs.Limits.{mostBytes, mostCode}
+use Rattle.text.specs.Limits.{mostBytes}
 use Rattle.text.specs.Text.{tab, space, onto, joined, parted, linesOf, fieldsOf, all, fine, same}
 use Rattle.text.specs.Code.{codeOf}
-use Rattle.text.specs.Plan.{Out, taken, no, then, each, station, code, Holding, holding, addStock, takeCode, Stocked, stocked, hasLine, Held, wordOf, held, laterFields, laterLine, gangIn, gangOf, firstLine, Reading, atLine, laterLines, allLines, reading, HAS}
+use Rattle.text.specs.Plan.{Out, taken, no, then, each, station, codeIn, code, Holding, holding, addStock, takeCode, Stocked, stocked, hasLine, Held, wordOf, held, laterFields, laterLine, gangIn, gangOf, firstLine, Reading, atLine, laterLines, allLines, reading, HAS}
 use Rattle.text.specs.Alike.{spaces, Each, none, more, Respaced, Alike, same-line, has-lines}
 use Rattle.text.specs.declared.Fault.the-variants.{StrayByte}
 use Rattle.text.proofs.Codes.{code-space}
@@ -46,7 +45,7 @@ module _ {f g : List ℕ} (r : Respaced f g) where
 
   same-field : code f ≡ code g
   unfolding code
-  same-field = rw (le-leb (length f) mostCode (r .f-short), le-leb (length g) mostCode (r .g-short), same-code)
+  same-field = ap codeIn same-code
 
 then-same : {A B : Type 0} (o : Out A) (f g : A → Out B) → ((a : A) → f a ≡ g a) → then o f ≡ then o g
 then-same (taken a) f g h = h a
@@ -150,6 +149,6 @@ same-all (more {b = m} {as′ = ls} {bs = ms} r rs) =
     ap (λ (o : Out Held). atLine 1 o (λ h. laterLines 2 h ls)) (same-first r)
     ∙ at-same 1 (firstLine m) (λ h. laterLines 2 h ls) (λ h. laterLines 2 h ms) (λ h. same-lines 2 h rs)
 
--- Two texts of at most 32,768 bytes that differ only in spaces at the end of codes are read alike.
+-- Two texts of at most 32,768 bytes that differ only in how many spaces stand behind codes are read alike.
 pub same-reading : (t u : List ℕ) → length t ≤ mostBytes → length u ≤ mostBytes → Each Alike (linesOf t) (linesOf u) → reading t ≡ reading u
 same-reading t u ht hu rs = sym (not-too-long t ht) ∙ same-all rs ∙ not-too-long u hu

@@ -1,9 +1,8 @@
--- Two plans that differ only in spaces at the end of codes, within the 12 bytes.
-use Prim.Native.Nat.{ℕ, _≤_}
+-- Two plans that differ only in how many spaces stand behind codes.
+use Prim.Native.Nat.{ℕ}
 use mathlib.Core.Path.{_≡_}
 use mathlib.Core.List.{List, [], _∷_, _++_}
-use lib.ListN.{length, replicate}
-use Rattle.text.specs.Limits.{mostCode}
+use lib.ListN.{replicate}
 use Rattle.text.specs.Text.{space, fieldsOf}
 use Rattle.text.specs.Plan.{HAS}
 
@@ -22,8 +21,6 @@ pub record Respaced (f g : List ℕ) : Type 0 where
   pub right : ℕ
   pub f-is : f ≡ code ++ spaces left
   pub g-is : g ≡ code ++ spaces right
-  pub f-short : length f ≤ mostCode
-  pub g-short : length g ≤ mostCode
 
 -- two lines: the same, or both `HAS` with the same station, and their codes differ only in spaces at the end
 pub data Alike (l m : List ℕ) : Type 0 where

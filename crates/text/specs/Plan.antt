@@ -43,9 +43,12 @@ unfoldable pub takeTurn : ℕ → List ℕ → List ℕ → Out (List ℕ)
 takeTurn n turns f =
     then (station n f) (λ i. cond (ltb (length turns) mostTurns) (taken (turns ++ (i ∷ []))) (no MoreTurns))
 
--- 17: "a code field has more than 12 bytes, or nothing but spaces"
+-- 17: "without the spaces at its end, a code has more than 12 bytes or none"
+abbrev pub codeIn : List ℕ → Out (List ℕ)
+codeIn c = cond (empty c) (no BadCode) (cond (leb (length c) mostCode) (taken c) (no BadCode))
+
 unfoldable pub code : List ℕ → Out (List ℕ)
-code f = cond (leb (length f) mostCode) (cond (empty (codeOf f)) (no BadCode) (taken (codeOf f))) (no BadCode)
+code f = codeIn (codeOf f)
 
 -- the codes so far, and the set of one station
 pub record Holding : Type 0 where

@@ -16,7 +16,7 @@ pub enum Fault {
     FewFields,
     // 16: a station is not a number from 1 to n
     BadStation,
-    // 17: a code field has more than 12 bytes, or nothing but spaces
+    // 17: without the spaces at its end, a code has more than 12 bytes or none
     BadCode,
     // 18: it would be stock number 65
     MoreStocks,

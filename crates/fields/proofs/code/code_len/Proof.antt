@@ -1,74 +1,17 @@
--- `fields::code::code_len` meets its contract. Invariant: only spaces have gone, so what is left of the front is what is left of the whole.
--- Assumes nothing.
-use Prim.Native.Nat.{ℕ, suc, _-_, _≤_}
-use mathlib.Core.Path.{_≡_, sym, ap, _∙_}
-use native.Mathlib.Omega.{arith}
+-- `fields::code::code_len` meets its contract. Assumes nothing.
 use borrow.Author.Needs.{needs}
-use lib.ListN.{length, take}
-use lib.Seq.{take-length, length-take-le}
-use Rattle.text.specs.Code.{codeOf}
-use Rattle.text.proofs.Codes.{trim-space, trim-solid}
+use Rattle.fields.proofs.Measured.{too-long, short-enough}
 use Rattle.fields.proofs.code.code_len.Statement.{statement}
 use Rattle.fields.proofs.code.code_len.Tie as tie
 
-abbrev Inv-loop : tie.InvT-loop
-Inv-loop field n₀ n = (n ≤ length field) × (codeOf field ≡ codeOf (take n field))
+trimmed-len-requires : tie.Need-trimmed-len-requires
+trimmed-len-requires c κs = search needs
 
-abbrev μ-loop : tie.MeasureT-loop
-μ-loop field n₀ n = n
+returns : tie.Need-returns
+returns c = search (too-long, needs)
 
-loop-holds : tie.Need-loop-holds Inv-loop μ-loop
-loop-holds c = (omega arith, sym (ap codeOf (take-length (c .args .field .now))))
-
-sub-if1 : tie.Need-sub-if1 Inv-loop μ-loop
-sub-if1 c = omega arith
-
-shared-slice-read-if1 : tie.Need-shared-slice-read-if1 Inv-loop μ-loop
-shared-slice-read-if1 c = omega arith
-
-returns : tie.Need-returns Inv-loop μ-loop
-returns c =
-    let l = c .before .before .before in
-    let f = l .before .args .field .now in
-    let n = l .loop .n in
-    let e : n ≡ suc (n - 1) = omega arith in
-    let t : codeOf (take n f) ≡ take n f = rw e (trim-solid f (n - 1) (omega arith) (c .if1 .taken)) in
-    sym (ap length (l .loop .inv .1 ∙ t) ∙ length-take-le n f (omega arith))
-
-sub-n : tie.Need-sub-n Inv-loop μ-loop
-sub-n c = omega arith
-
-loop-less : tie.Need-loop-less Inv-loop μ-loop
-loop-less c = omega arith
-
-loop-again : tie.Need-loop-again Inv-loop μ-loop
-loop-again c =
-    let l = c .before .before .before in
-    let f = l .before .args .field .now in
-    let n = l .loop .n in
-    let e : n ≡ suc (n - 1) = omega arith in
-    let t : codeOf (take (suc (n - 1)) f) ≡ codeOf (take (n - 1) f) = trim-space f (n - 1) (omega arith) (search needs) in
-    (omega arith, l .loop .inv .1 ∙ ap (λ (m : ℕ). codeOf (take m f)) e ∙ t)
-
-returns-2 : tie.Need-returns-2 Inv-loop μ-loop
-unfolding codeOf
-returns-2 c =
-    let l = c .before in
-    let f = l .before .args .field .now in
-    let e : l .loop .n ≡ 0 = omega arith in
-    sym (ap length (l .loop .inv .1 ∙ ap (λ (m : ℕ). codeOf (take m f)) e))
+returns-2 : tie.Need-returns-2
+returns-2 c = search (short-enough, needs)
 
 pub code-len-spec : {M : Type 1} → statement M
-code-len-spec =
-    tie.close
-    (tie.spec
-    Inv-loop
-    μ-loop
-    loop-holds
-    sub-if1
-    shared-slice-read-if1
-    returns
-    sub-n
-    loop-less
-    loop-again
-    returns-2)
+code-len-spec = tie.close (tie.spec trimmed-len-requires returns returns-2)
