@@ -5,12 +5,13 @@ use Prim.Native.String.{String, [] as ends, _∷_ as _then_}
 use mathlib.Core.Path.{_≡_, refl}
 use mathlib.Core.List.{List, [], _∷_, map}
 use lib.ListN.{take}
-use Rattle.text.specs.Text.{parted, all, run, same}
+use Rattle.text.specs.Text.{parted, linesOf, all, run, same}
 use Rattle.text.specs.Number.{valueOn, numberTo}
 use Rattle.text.specs.Code.{codeOf}
 use Rattle.text.specs.Refusal.{numberOf}
 use Rattle.text.specs.Plan.{Reading, plan, refused, each, station, takeTurn, takeCode, addStock, wordOf, hasLine, turnLine, laterLine, gangOf, firstLine, laterLines, reading}
 use Rattle.text.specs.Plan as Plan
+use Rattle.text.specs.Alike.{Each, none, more, Alike, same-line, has-lines}
 
 abbrev bytes : String → List ℕ
 bytes ends = []
@@ -68,3 +69,14 @@ cases =
 cases-right : map (λ (c : Case). shown (reading (bytes (c .text)))) cases ≡ map (λ (c : Case). c .gives) cases
 unfolding cases shown parted all run same valueOn numberTo codeOf numberOf each station takeTurn takeCode addStock Plan.code wordOf hasLine turnLine laterLine gangOf firstLine laterLines reading
 cases-right = refl
+
+-- two plans that differ only in how many spaces stand behind codes: one as an export pads it, one bare
+padded-alike : Each Alike (linesOf (bytes "GANG\t1\nHAS\t1\tKR90                \tSB70")) (linesOf (bytes "GANG\t1\nHAS\t1\tKR90\tSB70  "))
+unfolding parted
+padded-alike =
+    more (same-line refl)
+    (more (has-lines (bytes "1") _ _ refl refl
+    (more (record { code = bytes "KR90"; left = 16; right = 0; f-is = refl; g-is = refl })
+    (more (record { code = bytes "SB70"; left = 0; right = 2; f-is = refl; g-is = refl })
+    none)))
+    none)
