@@ -1,11 +1,11 @@
 -- What is left of a field without the spaces at its end.
-use Prim.Native.Nat.{ℕ, suc, _≤_, _<_}
+use Prim.Native.Nat.{ℕ, suc, _-_, _≤_, _<_}
 use mathlib.Core.Path.{_≡_, refl, sym, ap, _∙_}
 use mathlib.Core.Bool.{Bool, true, false}
 use mathlib.Core.List.{List, [], _∷_, _++_}
 use native.Mathlib.Omega.{arith}
 use lib.ListN.{length, getD, take, length-take}
-use lib.Seq.{take-suc}
+use lib.Seq.{take-suc, length-take-le}
 use lib.Dec.{eqb}
 use borrow.Author.Tests.{eq-eqb, ne-eqb}
 use Rattle.text.specs.Text.{space}
@@ -29,12 +29,22 @@ code-solid [] b e = ap (λ (t : Bool). before t b []) (ne-eqb b space e)
 code-solid (x ∷ xs) b e =
     ap (λ (l : List ℕ). before (eqb x space) x l) (code-solid xs b e) ∙ kept-before (eqb x space) x xs b
 
-module _ (l : List ℕ) (n : ℕ) (h : n < length l) where
-  pub trim-space : getD l n 0 ≡ space → codeOf (take (suc n) l) ≡ codeOf (take n l)
-  trim-space e = ap codeOf (take-suc l n 0 h) ∙ code-space (take n l) (getD l n 0) e
+-- the first n bytes of a field, behind which only spaces stood
+module _ (f : List ℕ) (n : ℕ) (left : codeOf f ≡ codeOf (take n f)) (some : 0 < n) (inside : n ≤ length f) where
+  last-apart : take n f ≡ take (n - 1) f ++ (getD f (n - 1) 0 ∷ [])
+  last-apart = let e : n ≡ suc (n - 1) = omega arith in ap (λ (m : ℕ). take m f) e ∙ take-suc f (n - 1) 0 (omega arith)
 
-  pub trim-solid : (getD l n 0 ≡ space → ⊥) → codeOf (take (suc n) l) ≡ take (suc n) l
-  trim-solid e = ap codeOf (take-suc l n 0 h) ∙ code-solid (take n l) (getD l n 0) e ∙ sym (take-suc l n 0 h)
+  pub trim-space : getD f (n - 1) 0 ≡ space → codeOf f ≡ codeOf (take (n - 1) f)
+  trim-space e = left ∙ ap codeOf last-apart ∙ code-space (take (n - 1) f) (getD f (n - 1) 0) e
+
+  pub trim-solid : (getD f (n - 1) 0 ≡ space → ⊥) → n ≡ length (codeOf f)
+  trim-solid e =
+      let all-left : codeOf (take n f) ≡ take n f = ap codeOf last-apart ∙ code-solid (take (n - 1) f) (getD f (n - 1) 0) e ∙ sym last-apart in
+      sym (ap length (left ∙ all-left) ∙ length-take-le n f inside)
+
+pub trim-all : (f : List ℕ) (n : ℕ) → codeOf f ≡ codeOf (take n f) → n ≤ 0 → 0 ≡ length (codeOf f)
+unfolding codeOf
+trim-all f n left h = let e : n ≡ 0 = omega arith in sym (ap length (left ∙ ap (λ (m : ℕ). codeOf (take m f)) e))
 
 front-of : (t : Bool) (b : ℕ) (c l : List ℕ) → c ≡ take (length c) l → before t b c ≡ take (length (before t b c)) (b ∷ l)
 front-of true b [] l e = refl

@@ -1,13 +1,13 @@
 -- `fields::code::trimmed_len` meets its contract. Invariant: only spaces have gone, so what is left of the front is what is left of the whole.
 -- Assumes nothing.
-use Prim.Native.Nat.{ℕ, suc, _-_, _≤_}
-use mathlib.Core.Path.{_≡_, sym, ap, _∙_}
+use Prim.Native.Nat.{_≤_}
+use mathlib.Core.Path.{_≡_, sym, ap}
 use native.Mathlib.Omega.{arith}
 use borrow.Author.Needs.{needs}
 use lib.ListN.{length, take}
-use lib.Seq.{take-length, length-take-le}
+use lib.Seq.{take-length}
 use Rattle.text.specs.Code.{codeOf}
-use Rattle.text.proofs.Codes.{trim-space, trim-solid}
+use Rattle.text.proofs.Codes.{trim-space, trim-solid, trim-all}
 use Rattle.fields.proofs.code.trimmed_len.Statement.{statement}
 use Rattle.fields.proofs.code.trimmed_len.Tie as tie
 
@@ -27,13 +27,7 @@ shared-slice-read-if1 : tie.Need-shared-slice-read-if1 Inv-loop μ-loop
 shared-slice-read-if1 c = omega arith
 
 returns : tie.Need-returns Inv-loop μ-loop
-returns c =
-    let l = c .before .before .before in
-    let f = l .before .args .field .now in
-    let n = l .loop .n in
-    let e : n ≡ suc (n - 1) = omega arith in
-    let t : codeOf (take n f) ≡ take n f = rw e (trim-solid f (n - 1) (omega arith) (c .if1 .taken)) in
-    sym (ap length (l .loop .inv .1 ∙ t) ∙ length-take-le n f (omega arith))
+returns c = search (trim-solid, needs)
 
 sub-n : tie.Need-sub-n Inv-loop μ-loop
 sub-n c = omega arith
@@ -42,21 +36,10 @@ loop-less : tie.Need-loop-less Inv-loop μ-loop
 loop-less c = omega arith
 
 loop-again : tie.Need-loop-again Inv-loop μ-loop
-loop-again c =
-    let l = c .before .before .before in
-    let f = l .before .args .field .now in
-    let n = l .loop .n in
-    let e : n ≡ suc (n - 1) = omega arith in
-    let t : codeOf (take (suc (n - 1)) f) ≡ codeOf (take (n - 1) f) = trim-space f (n - 1) (omega arith) (search needs) in
-    (omega arith, l .loop .inv .1 ∙ ap (λ (m : ℕ). codeOf (take m f)) e ∙ t)
+loop-again c = (omega arith, search (trim-space, needs))
 
 returns-2 : tie.Need-returns-2 Inv-loop μ-loop
-unfolding codeOf
-returns-2 c =
-    let l = c .before in
-    let f = l .before .args .field .now in
-    let e : l .loop .n ≡ 0 = omega arith in
-    sym (ap length (l .loop .inv .1 ∙ ap (λ (m : ℕ). codeOf (take m f)) e))
+returns-2 c = search (trim-all, needs)
 
 pub trimmed-len-spec : {M : Type 1} → statement M
 trimmed-len-spec =
