@@ -1,5 +1,7 @@
 // Runs the vectors in data/: plans with their reports, and run calls with their answers. Each that differs is told by its number in
 // the file, and at the end how many agree.
+#![tactic(auto)]
+
 ghost use Rattle.std.specs.Prelude.{◌≡◌, ◌≤◌, length};
 ghost use Rattle.io.specs.Counts.{IsPrefixLen};
 
@@ -11,14 +13,14 @@ mod judging;
 mod parts;
 
 // What a file holds.
-#[derive(Drop)]
+#[derive(Clone, Copy)]
 enum Kind {
     Plans,
     Calls,
 }
 
 // How many entries agree, of how many.
-#[derive(Drop)]
+#[derive(Clone, Copy)]
 struct Tally {
     agree: u64,
     of: u64,

@@ -1,4 +1,6 @@
 // Reads a plan from standard input and prints its report. A read or a write that fails is told on standard error.
+#![tactic(auto)]
+
 ghost use Rattle.std.specs.Prelude.{◌≡◌, ◌+◌, length};
 ghost use Rattle.text.specs.Limits.{most_bytes};
 ghost use Rattle.report.specs.Printed.{most_printed};

@@ -1,18 +1,20 @@
 // Reading a descriptor to its end.
+#![tactic(auto)]
+
 ghost use Rattle.std.specs.Prelude.{◌≤◌, length};
 ghost use Rattle.input.specs.Within.{Within, brought};
 
 use libc::EINTR;
 
 // A whole text of so many bytes; or a read failed before its end, and errno says why.
-#[derive(Drop)]
+#[derive(Clone, Copy)]
 pub enum Input {
     Whole(usize),
     Failed,
 }
 
 // What one read came to: so many bytes, and there may be more; the end; or a failure.
-#[derive(Drop)]
+#[derive(Clone, Copy)]
 enum Step {
     More(usize),
     End,
