@@ -50,6 +50,7 @@ pub enum Word {
 }
 
 // The number of a refusal in the table of MODEL 8.
+#[tactic(auto, unfolding(crate::specs::Refusal::number_of))]
 pub fn number_of(fault: Fault) -> u8
     ensures { result ≡ number_of fault }
 {
