@@ -27,39 +27,33 @@ loop-i-init c =
 
 pub returns-then-b-lt48 : goal.returns-then-b-lt48
 returns-then-b-lt48 c =
-    let l = c in
     let g = c.args in
-    sym (l.loop.invariant.2 ∙ on-low g.hi l.loop.v g.field.now l.loop.i (omega arith) c.if-b-lt48.true)
+    sym (c.loop-i.invariant.2 ∙ on-low g.hi c.loop-i.v g.field.now c.loop-i.i (omega arith) c.if-b-lt48.true)
 
 pub returns-then-b-gt57 : goal.returns-then-b-gt57
 returns-then-b-gt57 c =
-    let l = c in
     let g = c.args in
-    sym (l.loop.invariant.2 ∙ on-high g.hi l.loop.v g.field.now l.loop.i (omega arith) c.if-b-gt57.true)
+    sym (c.loop-i.invariant.2 ∙ on-high g.hi c.loop-i.v g.field.now c.loop-i.i (omega arith) c.if-b-gt57.true)
 
 pub returns-then-v-most : goal.returns-then-v-most
 returns-then-v-most c =
-    let l = c in
     let g = c.args in
-    sym (l.loop.invariant.2 ∙ past g.hi l.loop.v (drop l.loop.i g.field.now) c.if-v-most.true)
+    sym (c.loop-i.invariant.2 ∙ past g.hi c.loop-i.v (drop c.loop-i.i g.field.now) c.if-v-most.true)
 
 pub loop-i-preserved : goal.loop-i-preserved
 loop-i-preserved c =
-    let l = c in
     let g = c.args in (
       omega arith,
       refl,
-      l.loop.invariant.2 ∙ on-digit g.hi l.loop.v g.field.now l.loop.i (omega arith) (omega arith) (omega arith),
+      c.loop-i.invariant.2 ∙ on-digit g.hi c.loop-i.v g.field.now c.loop-i.i (omega arith) (omega arith) (omega arith),
     )
 
 pub returns-then-v-most-2 : goal.returns-then-v-most-2
 returns-then-v-most-2 c =
-    let l = c in
     let g = c.args in
-    sym (l.loop.invariant.2 ∙ past g.hi l.loop.v (drop l.loop.i g.field.now) c.if-v-most-2.true)
+    sym (c.loop-i.invariant.2 ∙ past g.hi c.loop-i.v (drop c.loop-i.i g.field.now) c.if-v-most-2.true)
 
 pub returns : goal.returns
 returns c =
-    let l = c in
     let g = c.args in
-    sym (l.loop.invariant.2 ∙ to_end g.hi l.loop.v g.field.now l.loop.i (omega arith) c.if-v-most-2.false)
+    sym (c.loop-i.invariant.2 ∙ to_end g.hi c.loop-i.v g.field.now c.loop-i.i (omega arith) c.if-v-most-2.false)

@@ -12,17 +12,14 @@ use Rattle.fields.proofs.scan.field_end.Goals as goal
 
 pub returns-then-line-i-eq9 : goal.returns-then-line-i-eq9
 returns-then-line-i-eq9 c =
-    let b = c in
-    let l = b.before.args.line.now in
-    run-stops 0 no_tab l b.loop.i (search rules) (ap not (eq-eqb (get_or l b.loop.i 0) 9 c.if-line-i-eq9.true)) ∙ sym b.loop.invariant
+    let l = c.args.line.now in
+    run-stops 0 no_tab l c.loop-i.i (search rules) (ap not (eq-eqb (get_or l c.loop-i.i 0) 9 c.if-line-i-eq9.true)) ∙ sym c.loop-i.invariant
 
 pub loop-i-preserved : goal.loop-i-preserved
 loop-i-preserved c =
-    let b = c in
-    let l = b.before.args.line.now in
-    b.loop.invariant ∙ run_on 0 no_tab l b.loop.i (search rules) (ap not (ne_eqb (get_or l b.loop.i 0) 9 c.if-line-i-eq9.false))
+    let l = c.args.line.now in
+    c.loop-i.invariant ∙ run_on 0 no_tab l c.loop-i.i (search rules) (ap not (ne_eqb (get_or l c.loop-i.i 0) 9 c.if-line-i-eq9.false))
 
 pub returns : goal.returns
 returns c =
-    let b = c in
-    run_ends 0 no_tab b.before.args.line.now b.loop.i (search rules) ∙ sym b.loop.invariant
+    run_ends 0 no_tab c.args.line.now c.loop-i.i (search rules) ∙ sym c.loop-i.invariant

@@ -9,15 +9,12 @@ use Rattle.fields.proofs.scan.line_end.Goals as goal
 
 pub loop-i-preserved : goal.loop-i-preserved
 loop-i-preserved c =
-    let b = c in
-    b.loop.invariant ∙ run_on 0 fine b.before.before.args.text.now b.loop.i (search rules) (sym c.fine.ensures ∙ c.if-fine.true)
+    c.loop-i.invariant ∙ run_on 0 fine c.args.text.now c.loop-i.i (search rules) (sym c.fine.ensures ∙ c.if-fine.true)
 
 pub returns-else-fine : goal.returns-else-fine
 returns-else-fine c =
-    let b = c in
-    run-stops 0 fine b.before.before.args.text.now b.loop.i (search rules) (sym c.fine.ensures ∙ c.if-fine.false) ∙ sym b.loop.invariant
+    run-stops 0 fine c.args.text.now c.loop-i.i (search rules) (sym c.fine.ensures ∙ c.if-fine.false) ∙ sym c.loop-i.invariant
 
 pub returns : goal.returns
 returns c =
-    let b = c in
-    run_ends 0 fine b.before.before.args.text.now b.loop.i (search rules) ∙ sym b.loop.invariant
+    run_ends 0 fine c.args.text.now c.loop-i.i (search rules) ∙ sym c.loop-i.invariant

@@ -10,12 +10,11 @@ slice-aggregate-put-pair c = search rules
 
 pub returns : goal.returns
 returns c =
-    let sixth = c in
-    let fifth = sixth.before.before.before.before in
+    let fifth = c.before in
     let fourth = fifth.before.before.before.before in
     let third = fourth.before.before.before.before in
     let told = third.before.before.before.before.before in
     let a = told.before.before.args in (
-      station-put _ _ _ _ _ _ _ _ _ _ a.i a.row told.Shown-of.result told.Shown-of.ensures third.put-pair.ensures.0 fourth.put-number.ensures.0 fifth.put-set.ensures.0 sixth.put-set2.ensures.0,
-      omega (arith, third.put-pair.ensures.1, fourth.put-number.ensures.1, fifth.put-set.ensures.1, sixth.put-set2.ensures.1),
+      station-put _ _ _ _ _ _ _ _ _ _ a.i a.row told.Shown-of.result told.Shown-of.ensures third.put-pair.ensures.0 fourth.put-number.ensures.0 fifth.put-set.ensures.0 c.put_set.ensures.0,
+      omega (arith, third.put-pair.ensures.1, fourth.put-number.ensures.1, fifth.put-set.ensures.1, c.put_set.ensures.1),
     )

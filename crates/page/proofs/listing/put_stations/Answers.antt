@@ -30,12 +30,11 @@ overflow_add-i-in-loop-i c = omega (arith, c.requires.0)
 
 pub loop-i-preserved : goal.loop-i-preserved
 loop-i-preserved c =
-    let start = c in
-    let a = start.args in
+    let a = c.args in
     let l = c.loop-i in
     let put = c.put_station-next in
-    let long : length a.rows ≡ 16 = start.well-formed.1.1.1.0.1.0.1 in (
-      putting-more _ _ l.invariant.0 (stations-more a.n a.rows l.i c.loop-i-test.true (omega (arith, start.requires.0))) put.ensures.0,
+    let long : length a.rows ≡ 16 = c.well_formed.1.1.1.0.1.0.1 in (
+      putting-more _ _ l.invariant.0 (stations-more a.n a.rows l.i c.loop-i-test.true (omega (arith, c.requires.0))) put.ensures.0,
       omega arith,
       put.auto.page ∙ l.invariant.2,
       omega (arith, l.invariant.3, put.ensures.1),
