@@ -8,8 +8,11 @@ put_byte-requires c =
     let d = behind _ _ _ _ _ c.put_digits-next.ensures in
     omega (arith, c.put_digits-next.auto.page)
 
-pub returns-then-settled : goal.returns-then-settled
-returns-then-settled c = (search (set-put, rules), search (set-near, rules))
+pub returns-then-settled-clause-put : goal.returns-then-settled-clause-put
+returns-then-settled-clause-put c = search (set-put, rules)
 
-pub returns : goal.returns
-returns c = (search (dash-put, rules), omega arith)
+pub returns-then-settled-clause-upper_bound : goal.returns-then-settled-clause-upper_bound
+returns-then-settled-clause-upper_bound c = search (set-near, rules)
+
+pub returns-clause-put : goal.returns-clause-put
+returns-clause-put c = search (dash-put, rules)

@@ -8,18 +8,6 @@ use Rattle.page.proofs.Laying.{Putting, putting-none, putting-more, putting-all}
 use Rattle.page.proofs.Listed.{stocks_from, stocks-none, stocks-more, stocks-all}
 use Rattle.page.proofs.listing.put_stocks.Goals as goal
 
--- ?? no goal for slice-bounds-put-stock-start: ['add-end', 'add-k', 'cast-put-stock', 'least-requires', 'loop-init', 'loop-preserved', 'loop-smaller', 'mul-least', 'mul-start', 'part-put-stock-end', 'part-put-stock-start', 'put-stock-requires', 'returns', 'same-length', 'shared-slice-read-least', 'sub-put-stock']
-
--- ?? no goal for slice-bounds-put-stock-end: ['add-end', 'add-k', 'cast-put-stock', 'least-requires', 'loop-init', 'loop-preserved', 'loop-smaller', 'mul-least', 'mul-start', 'part-put-stock-end', 'part-put-stock-start', 'put-stock-requires', 'returns', 'same-length', 'shared-slice-read-least', 'sub-put-stock']
-
-part-put-stock-start : tie.Need-slice-bounds-put-stock-start invariant-loop decreases-loop
-part-put-stock-start c = omega arith
-
-part-put-stock-end : tie.Need-slice-bounds-put-stock-end invariant-loop decreases-loop
-part-put-stock-end c =
-    let p = c.before.before.before.before.before.before.before.before.requires in
-    omega (arith, p.1.most, p.1.cells-long, c.before.least.ensures)
-
 pub loop-k-init : goal.loop-k-init
 loop-k-init c =
     let a = c.args in
@@ -54,17 +42,17 @@ loop-k-preserved c =
     let a = c.args in
     let l = c.loop-k in
     let put = c.put_stock-next in (
-      putting-more _ _ l.invariant.0 (stocks-more a.cells.now a.lens.now a.count l.k _ c.loop-k-test.true c.least.ensures) put.ensures.0,
+      putting-more _ _ l.invariant.0 (stocks-more a.cells.now a.lens.now a.count l.k _ c.loop-k-test.true c.least.ensures) put.ensures.put,
       omega arith,
       put.auto.page ∙ l.invariant.2,
-      omega (arith, l.invariant.3, put.ensures.1),
+      omega (arith, l.invariant.3, put.ensures.upper_bound),
     )
 
 pub shape_of-page : goal.shape_of-page
 shape_of-page c = c.loop-k.invariant.2
 
-pub returns : goal.returns
-returns c =
-    let a = c.args in
-    let l = c.loop-k in
-    (putting-all l.invariant.0 (stocks-all a.cells.now a.lens.now a.count l.k c.loop-k-test.false), omega (arith, l.invariant.1, l.invariant.3))
+pub returns-clause-put : goal.returns-clause-put
+returns-clause-put c = (putting-all c.loop-k.invariant.0 (stocks-all c.args.cells.now c.args.lens.now c.args.count c.loop-k.k c.loop-k-test.false))
+
+pub returns-clause-upper_bound : goal.returns-clause-upper_bound
+returns-clause-upper_bound c = omega (arith, c.loop-k.invariant.1, c.loop-k.invariant.3)
