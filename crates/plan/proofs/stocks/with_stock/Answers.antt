@@ -1,22 +1,13 @@
--- `plan::stocks::with_stock` meets its contract: bit k is within 64 bits.
--- Assumes nothing.
 use Prim.Native.Nat.{ℕ, ◌*◌, ◌^◌, ◌%◌}
 use mathlib.Core.Path.{◌≡◌, ap, ◌∙◌}
 use borrow.Author.Rules.{rules}
 use native.Mathlib.Nat.{mod-eq_of_lt, one-mul}
 use lib.Bits.{bit_or}
 use lib.Pow.{pow-lt}
-use Rattle.plan.proofs.stocks.with_stock.Statement.{statement}
-use Rattle.plan.proofs.stocks.with_stock.Tie as tie
+use Rattle.plan.proofs.stocks.with_stock.Goals as goal
 
-shl-result : tie.Need-overflow-shl-result
-shl-result c = search rules
-
-returns : tie.Need-returns
+pub returns : goal.returns
 returns c =
     let k = c.args.k in
     let s : 1 * 2 ^ k ≡ 2 ^ k = one-mul (2 ^ k) in
     ap (bit_or c.args.set) (ap (λ (x : ℕ). x % 2 ^ 64) s ∙ mod-eq_of_lt (pow-lt {i = k} {j = 64} c.requires))
-
-pub with-stock-spec : {M : Type 1} → statement M
-with-stock-spec = tie.close (tie.spec shl-result returns)

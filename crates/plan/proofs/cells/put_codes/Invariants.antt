@@ -1,0 +1,19 @@
+use Prim.Native.Nat.{ℕ, ◌-◌, ◌*◌, ◌≤◌}
+use mathlib.Core.Path.{◌≡◌, refl, ap, ◌∙◌}
+use native.Mathlib.Omega.{arith}
+use mathlib.Core.List.{List}
+use lib.ListN.{length, get_or}
+use lib.Seq.{paste}
+use Rattle.text.specs.Limits.{most_stocks, most_code}
+use Rattle.plan.specs.Hand.{code_at, codes_in}
+use Rattle.text.specs.Buffers.{padded, cells_of}
+use Rattle.plan.proofs.Celled.{code-more, cells-there}
+use Rattle.plan.proofs.cells.put_codes.Given as goal
+
+-- `plan::cells::put_codes` meets its contract. Invariant: the first k codes stand in their cells, and the rest is 0.
+-- Assumes nothing.
+abbrev pub invariant-loop-k : goal.invariant-loop-k
+invariant-loop-k l = (l.k ≤ l.count) × (l.cells ≡ padded (most_stocks * most_code) (cells_of (codes_in l.text l.starts l.lens l.k)))
+
+abbrev pub decreases-loop-k : goal.decreases-loop-k
+decreases-loop-k l = l.count - l.k

@@ -1,0 +1,40 @@
+use Prim.Native.Nat.{◌≤◌}
+use mathlib.Core.Path.{sym}
+use native.Mathlib.Omega.{arith}
+use borrow.Author.Rules.{rules}
+use lib.Seq.{length-take-le}
+use Rattle.plan.proofs.Windows.{field-most}
+use Rattle.plan.proofs.LineWays.{other_way, has-way, has-no-way, turn-way, turn-no-way}
+use Rattle.plan.proofs.lines.later_line.Goals as goal
+use Rattle.plan.proofs.lines.later_line.Goals.{After-field_end-e}
+
+-- where the first field ends
+ended : (c : After-field_end-e) → c.field_end-e.result ≤ c.args.end
+ended c = field-most c.args.text.now c.args.at c.args.end c.field_end-e.result c.field_end-e.ensures c.requires.starts-at c.requires.ends
+
+-- `plan::lines::later_line` meets its contract: by its word the line is a HAS line, a TURN line or refused.
+-- Assumes nothing.
+pub slice_bounds-field_end-end : goal.slice_bounds-field_end-end
+slice_bounds-field_end-end c = sym (length-take-le c.args.end c.args.text.now c.requires.ends)
+
+pub overflow_add-e : goal.overflow_add-e
+overflow_add-e c = omega (arith, ended (goal.at.overflow_add-e c).After-field_end-e, c.requires.ends, c.well_formed)
+
+pub overflow_add-e-in-Turn : goal.overflow_add-e-in-Turn
+overflow_add-e-in-Turn c = omega (arith, ended (goal.at.overflow_add-e-in-Turn c).After-field_end-e, c.requires.ends, c.well_formed)
+
+pub returns-in-Count : goal.returns-in-Count
+returns-in-Count c = ?
+
+pub returns-in-Refused : goal.returns-in-Refused
+returns-in-Refused c = ?
+
+pub returns-in-Count-r : goal.returns-in-Count-r
+returns-in-Count-r c = ?
+
+pub returns-in-Refused-r : goal.returns-in-Refused-r
+returns-in-Refused-r c = ?
+
+pub returns-in-Other : goal.returns-in-Other
+returns-in-Other c = ?
+

@@ -1,0 +1,64 @@
+use Prim.Native.Nat.{◌+◌, ◌-◌, ◌≤◌}
+use mathlib.Core.Path.{◌≡◌, refl, sym, ◌∙◌}
+use native.Mathlib.Omega.{arith}
+use borrow.Author.Rules.{rules}
+use lib.ListN.{length, drop}
+use Rattle.text.specs.Text.{lines_of}
+use Rattle.text.specs.Plan.{later_lines}
+use Rattle.plan.specs.Hand.{hand, held_of, PlanIn}
+use Rattle.plan.proofs.Windows.{line-most}
+use Rattle.plan.proofs.LineWays.{more-gives, more-kept, bad-gives}
+use Rattle.plan.proofs.Later.{no_line, line-strayed, line_taken, line_refused}
+use Rattle.plan.proofs.lines.later_lines.Goals as goal
+use Rattle.plan.proofs.lines.later_lines.Goals.{After-line_end-end}
+
+-- where the line ends
+ended : (c : After-line_end-end) → c.line_end-end.result ≤ length c.args.text.now
+ended c = line-most c.args.text.now c.loop-i.i c.line_end-end.result c.line_end-end.ensures (omega (arith, c.loop-i-test.true))
+
+pub loop-i-init : goal.loop-i-init
+loop-i-init c = (c.requires, refl, omega arith)
+
+pub returns-then-strays : goal.returns-then-strays
+returns-then-strays c =
+    let a = c.args in
+    let l = c.loop-i in
+    let f = c.line_end-end in
+    record {
+      gives =
+          line-strayed a.text.now _ l.line (held_of a.text.now a.n (hand l.sets l.starts l.lens l.keys l.turns) l.stocks l.turned) l.i l.invariant.1
+          c.loop-i-test.true f.result f.ensures (sym c.strays.ensures ∙ c.if-strays.true);
+      kept = tt;
+    }
+
+pub later_line-r-requires : goal.later_line-r-requires
+later_line-r-requires c =
+    record {
+      starts-at = omega (arith, c.line_end-end.ensures);
+      ends = ended (goal.at.later_line-r-requires c).After-line_end-end;
+      plan = c.loop-i.invariant.0;
+    }
+
+pub overflow_add-i : goal.overflow_add-i
+overflow_add-i c = omega (arith, ended (goal.at.overflow_add-i c).After-line_end-end, c.well_formed)
+
+pub overflow_add-line : goal.overflow_add-line
+overflow_add-line c = omega (arith, c.loop-i.invariant.2, c.loop-i-test.true, c.well_formed)
+
+pub loop-i-smaller : goal.loop-i-smaller
+loop-i-smaller c = omega (arith, c.line_end-end.ensures, c.loop-i-test.true)
+
+pub loop-i-preserved : goal.loop-i-preserved
+loop-i-preserved c = ?
+
+pub returns-in-Refused : goal.returns-in-Refused
+returns-in-Refused c = ?
+
+pub returns : goal.returns
+returns c =
+    let a = c.args in
+    let l = c.loop-i in
+    record {
+      gives = no_line a.text.now _ l.line (held_of a.text.now a.n (hand l.sets l.starts l.lens l.keys l.turns) l.stocks l.turned) l.i l.invariant.1 c.loop-i-test.false;
+      kept = l.invariant.0;
+    }
