@@ -9,10 +9,10 @@ use Rattle.plan.proofs.Keys.{key-on, key-ends}
 use Rattle.plan.proofs.compare.key_of.Goals as goal
 
 pub overflow_cast-key : goal.overflow_cast-key
-overflow_cast-key c = ?
+overflow_cast-key c = omega (arith, c.type_inv.code c.loop-i.i)
 
 pub overflow_add-key : goal.overflow_add-key
-overflow_add-key c = ?
+overflow_add-key c = omega (arith, c.type_inv.code c.loop-i.i)
 
 pub loop-i-preserved : goal.loop-i-preserved
 loop-i-preserved c =

@@ -38,3 +38,8 @@ pub returns : goal.returns
 returns c =
     let f = c.field_end-e in
     gang-other c.args.text.now c.args.end c.requires f.result f.ensures (sym c.same.ensures ∙ c.if-same.false)
+
+pub slice_bounds-number-end : goal.slice_bounds-number-end
+slice_bounds-number-end c =
+    let m = field-most c.args.text.now (c.field_end-e.result + 1) c.args.end c.field_end-f.result c.field_end-f.ensures (omega arith) c.requires in
+    omega (arith, m, c.requires)

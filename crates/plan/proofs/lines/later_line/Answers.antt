@@ -24,17 +24,28 @@ pub overflow_add-e-in-Turn : goal.overflow_add-e-in-Turn
 overflow_add-e-in-Turn c = omega (arith, ended (goal.at.overflow_add-e-in-Turn c).After-field_end-e, c.requires.ends, c.well_formed)
 
 pub returns-in-Count : goal.returns-in-Count
-returns-in-Count c = ?
+returns-in-Count c =
+    has-way c.requires c.field_end-e.ensures c.word-w.ensures c.in-Has.is
+    c.has_line-r.ensures c.in-Count.k c.in-Count.is
 
 pub returns-in-Refused : goal.returns-in-Refused
-returns-in-Refused c = ?
+returns-in-Refused c =
+    has-no-way c.requires c.field_end-e.ensures c.word-w.ensures c.in-Has.is
+    c.has_line-r.ensures c.in-Refused.fault c.in-Refused.is
 
 pub returns-in-Count-r : goal.returns-in-Count-r
-returns-in-Count-r c = ?
+returns-in-Count-r c =
+    turn-way c.requires c.field_end-e.ensures c.word-w.ensures c.in-Turn.is
+    c.turn_line-r.ensures c.in-Count-r.k c.in-Count-r.is
 
 pub returns-in-Refused-r : goal.returns-in-Refused-r
-returns-in-Refused-r c = ?
+returns-in-Refused-r c =
+    turn-no-way c.requires c.field_end-e.ensures c.word-w.ensures c.in-Turn.is
+    c.turn_line-r.ensures c.in-Refused-r.fault c.in-Refused-r.is
 
 pub returns-in-Other : goal.returns-in-Other
-returns-in-Other c = ?
+returns-in-Other c =
+    other_way c.requires c.field_end-e.ensures c.word-w.ensures c.in-Other.is
 
+pub slice_bounds-word-end : goal.slice_bounds-word-end
+slice_bounds-word-end c = omega (arith, ended (goal.at.slice_bounds-word-end c).After-field_end-e, c.requires.ends)

@@ -49,10 +49,32 @@ pub loop-i-smaller : goal.loop-i-smaller
 loop-i-smaller c = omega (arith, c.line_end-end.ensures, c.loop-i-test.true)
 
 pub loop-i-preserved : goal.loop-i-preserved
-loop-i-preserved c = ?
+loop-i-preserved c =
+    let a = c.args in
+    let l = c.loop-i in
+    let f = c.line_end-end in
+    let t = c.later_line-r in
+    (
+      more-kept t.ensures c.in-More.s c.in-More.t c.in-More.is,
+      line_taken a.text.now _ l.line (held_of a.text.now a.n (hand l.sets l.starts l.lens l.keys l.turns) l.stocks l.turned) l.i l.invariant.1
+          c.loop-i-test.true f.result f.ensures (sym c.strays.ensures ∙ c.if-strays.false)
+          _ (more-gives t.ensures c.in-More.s c.in-More.t c.in-More.is),
+      omega (arith, f.ensures, l.invariant.2),
+    )
 
 pub returns-in-Refused : goal.returns-in-Refused
-returns-in-Refused c = ?
+returns-in-Refused c =
+    let a = c.args in
+    let l = c.loop-i in
+    let f = c.line_end-end in
+    let t = c.later_line-r in
+    record {
+      gives =
+          line_refused a.text.now _ l.line (held_of a.text.now a.n (hand l.sets l.starts l.lens l.keys l.turns) l.stocks l.turned) l.i l.invariant.1
+          c.loop-i-test.true f.result f.ensures (sym c.strays.ensures ∙ c.if-strays.false)
+          c.in-Refused.fault (bad-gives t.ensures c.in-Refused.fault c.in-Refused.is);
+      kept = tt;
+    }
 
 pub returns : goal.returns
 returns c =

@@ -13,5 +13,5 @@ returns c =
     let a = c.args in
     let key = c.key_of-key in
     let stock = c.stock_of-j in
-    read-new a.text.now a.starts.now a.lens.now a.keys.now a.count a.at a.end key.result a.set stock.result c.requires.0
-    stock.ensures c.with_stock-2.result c.if-j-count.false c.if-count-ge-STOCKS.false c.requires.1 key.ensures c.with_stock-2.ensures
+    read-new a.text.now a.starts.now a.lens.now a.keys.now a.count a.at a.end key.result a.set stock.result c.requires.listed
+    stock.ensures c.with_stock-2.result c.if-j-count.false c.if-count-ge-STOCKS.false c.requires.end_bound key.ensures c.with_stock-2.ensures

@@ -38,10 +38,25 @@ pub loop-i-smaller : goal.loop-i-smaller
 loop-i-smaller c = omega (arith, c.field_end-e.ensures, c.loop-i-test.true)
 
 pub loop-i-preserved : goal.loop-i-preserved
-loop-i-preserved c = ?
+loop-i-preserved c =
+    let l = c.loop-i in
+    let t = c.take_code-r in
+    (
+      stocks-kept t.ensures c.in-Stocks.more c.in-Stocks.wider c.in-Stocks.is,
+      field-taken take_code c.args.text.now c.args.end c.requires.ends _ (holding (codes_in c.args.text.now l.starts l.lens l.k) l.s) l.i l.invariant.1
+          c.field_end-e.result c.loop-i-test.true c.field_end-e.ensures _ (stocks-gives t.ensures c.in-Stocks.more c.in-Stocks.wider c.in-Stocks.is),
+    )
 
 pub returns-in-Refused : goal.returns-in-Refused
-returns-in-Refused c = ?
+returns-in-Refused c =
+    let l = c.loop-i in
+    let t = c.take_code-r in
+    record {
+      gives =
+          field-refused take_code c.args.text.now c.args.end c.requires.ends _ (holding (codes_in c.args.text.now l.starts l.lens l.k) l.s) l.i l.invariant.1
+          c.field_end-e.result c.loop-i-test.true c.field_end-e.ensures _ (refused-gives t.ensures c.in-Refused.fault c.in-Refused.is);
+      kept = tt;
+    }
 
 pub returns : goal.returns
 returns c =

@@ -34,8 +34,12 @@ bounds-sets-i-in-Stocks c =
     (omega (arith, number-most c.args.n (part c.args.text.now c.args.at c.field_end-e.result), n.ensures, c.requires.stations))
 
 pub returns-in-Stocks : goal.returns-in-Stocks
-returns-in-Stocks c = ?
+returns-in-Stocks c =
+    read_taken c.args.at c.requires c.if-at-end.false c.field_end-e.ensures c.if-e-end.false
+    c.number-station.ensures c.if-station-eq0.false c.codes_from-r.ensures c.in-Stocks.more c.in-Stocks.wider c.in-Stocks.is
 
 pub returns-in-Refused : goal.returns-in-Refused
-returns-in-Refused c = ?
+returns-in-Refused c =
+    read-refused c.args.at c.requires c.if-at-end.false c.field_end-e.ensures c.if-e-end.false
+    c.number-station.ensures c.if-station-eq0.false c.codes_from-r.ensures c.in-Refused.fault c.in-Refused.is
 

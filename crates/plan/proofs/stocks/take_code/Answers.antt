@@ -11,7 +11,11 @@ pub overflow_add-at : goal.overflow_add-at
 overflow_add-at c = search (code-room, rules)
 
 pub add_stock-requires : goal.add_stock-requires
-add_stock-requires c = (record { starts-at = search rules; ends = search (code_inside, rules); table = search rules }, search (code_fits, rules))
+add_stock-requires c =
+    record {
+      listed = record { starts-at = search rules; ends = search (code_inside, rules); table = search rules };
+      end_bound = search (code_fits, rules);
+    }
 
 pub returns : goal.returns
 returns c =

@@ -72,3 +72,6 @@ returns c =
       gives = no_field (take_turn c.args.n) c.args.text.now c.args.end c.requires.inside _ (take l.k l.turns) l.i l.invariant.1 c.loop-i-test.false;
       kept = l.invariant.0;
     }
+
+pub slice_bounds-number-end : goal.slice_bounds-number-end
+slice_bounds-number-end c = omega (arith, ended (goal.at.slice_bounds-number-end c).After-field_end-e, c.requires.inside)
