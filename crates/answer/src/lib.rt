@@ -1,4 +1,5 @@
 // The answer: what is shown of a station's state, and its twenty bytes.
+#![tactic(auto)]
 
 // A station's state, as it is shown.
 pub mod shown;

@@ -5,7 +5,7 @@ ghost use Rattle.answer.specs.Answer.{shown_of};
 use method::State;
 
 // 0 not begun, 1 under way, 2 settled; and the settled stations and stocks, none until then.
-#[derive(Drop)]
+#[derive(Clone, Copy)]
 pub struct Shown {
     pub number: u8,
     pub stations: u64,

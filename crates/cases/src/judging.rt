@@ -7,7 +7,7 @@ use page::PAGE;
 use report::Printed;
 
 // What an entry of a file came to, and where the next one stands.
-#[derive(Drop)]
+#[derive(Clone, Copy)]
 pub struct Judged {
     pub agrees: bool,
     pub next: usize,

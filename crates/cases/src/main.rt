@@ -21,7 +21,7 @@ enum Kind {
 }
 
 // How many entries agree, of how many.
-#[derive(Drop)]
+#[derive(Clone, Copy)]
 struct Tally {
     agree: u64,
     of: u64,

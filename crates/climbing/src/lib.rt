@@ -1,4 +1,6 @@
 // From level to level, and then the gathering: where a station stands once a level gave its set, or a line was read.
+#![tactic(auto)]
+
 ghost use Rattle.std.specs.Prelude.{◌≡◌};
 ghost use Rattle.method.specs.Steps.{gather, climb};
 

@@ -7,7 +7,7 @@ ghost use Rattle.fields.specs.Window.{no_tab, end_of};
 
 use super::scan;
 
-#[derive(Drop)]
+#[derive(Clone, Copy)]
 pub struct Reader<'a> {
     pub text: &'a [u8],
     pub at: usize,

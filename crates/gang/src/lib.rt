@@ -1,4 +1,5 @@
 // Every call for a program in C, each thin over the library's own function. include/gang.h declares them.
+#![tactic(auto)]
 
 // A run from bytes.
 pub mod run_call;

@@ -7,14 +7,14 @@ ghost use Rattle.input.specs.Within.{Within, brought, Gave, GaveSome, NoSignal, 
 use std::io::{Error, ErrorKind, Read};
 
 // A whole text of so many bytes; or a read failed before its end, and the error says why.
-#[derive(Drop)]
+#[derive(Clone, Copy)]
 pub enum Input {
     Whole(usize),
     Failed(Error),
 }
 
 // What one read came to: so many bytes, and there may be more; the end; or a failure.
-#[derive(Drop)]
+#[derive(Clone, Copy)]
 enum Step {
     More(usize),
     End,

@@ -32,7 +32,7 @@ use Rattle.method.proofs.Rows.{RowOk, begins, unites, gathers, begun-input, row-
 use Rattle.method.proofs.Readings.{Answer, BoardOk}
 use Rattle.method.proofs.Moves.{absorb-post, absorb-line, absorb-own, absorb-other}
 use Rattle.method.proofs.Parts.{Shape, fresh-shape, fresh-register, fresh-line, fresh-row, line-put, register-put, Put, kept, anew, register-cases, put-there}
-use Rattle.method.proofs.Turns.{Acts, posts, writes, reads, reads-line, Performs, acts, idles, misses, Turns, station, nobody, turns, acts-row, acts-shape, LineAfter, same, posted, acts-line, post-begins, Gathers, gathering, read-gathers, goes-register, goes-line, goes-row, goes-shape, goes-row-other, turn-stays, named-station}
+use Rattle.method.proofs.Turns.{line-read, Acts, posts, writes, reads, reads-line, Performs, acts, idles, misses, Turns, station, nobody, turns, acts-row, acts-shape, LineAfter, same, posted, acts-line, post-begins, Gathers, gathering, read-gathers, goes-register, goes-line, goes-row, goes-shape, goes-row-other, turn-stays, named-station}
 
 -- the board of a run, at every moment
 abbrev pub board : Run → List ℕ → History
@@ -213,8 +213,12 @@ module _ (l r n : ℕ) (inputs : List ℕ) (fits : Fits l r n inputs) (order : L
         let b = sibling-within (depth n) d (e / 2 ^ d) pair.within (block_in h pair.within) in
         let x = reached (other_block d e) pair.theirs pair.within b a reg board in
         (x.0, absorb-other (depth n) n inputs lasts few enough (suc t) e pair x.0 round v seen pend spent x.1)
-    effect {e = e} h names board reg lin (gathers {j = j} b s k g c) (reads-line q) =
-        (board-same reg board, absorb-line (depth n) n inputs lasts few enough (suc t) e j b s k g c (sound.lines j (few j (brought-posted b j k)) q))
+    effect {e = e} h names board reg lin (gathers {j = j} b s k g c) a =
+        let x = line-read a in (
+          board-same (λ p q r. reg p q r ∙ ap (λ (y : Run). register_of y p q r) x.2) board,
+          absorb-line (depth n) n inputs lasts few enough (suc t) e j b s k g c (x.0 ∙ sound.lines j (few j (brought-posted b j k)) x.1),
+        )
+    effect {e = e} {c = c} {v = v} {nx = nx} h names board reg lin (R.settled {S = S} {got = got} _ _ _ _) a = elim a [ ]
 
     -- a turn of station e + 1 that makes an operation
     module _ (e v : ℕ) {nx : Run} (h : e < n) (a : Acts now (suc e) (next_op (suc e) (row_of now (suc e)).state) v nx) (is : next ≡ goes_on nx (suc e) v)

@@ -34,6 +34,11 @@ pub data Acts (run : Run) (i : ℕ) : Op → ℕ → Run → Type 0 where
   reads : {k c j : ℕ} → Acts run i (Read k c j) (register_of run k c j) run
   reads-line : {j : ℕ} → (line_of run j).written ≡ true → Acts run i (ReadLine j) (line_of run j).stocks run
 
+-- what a read of a line found
+pub line-read : {run : Run} {i j v : ℕ} {next : Run} → Acts run i (ReadLine j) v next
+    → (v ≡ (line_of run j).stocks) × ((line_of run j).written ≡ true) × (next ≡ run)
+line-read (reads-line q) = (refl, q, refl)
+
 -- what an operation comes to
 pub data Performs (run : Run) (i : ℕ) : Op → Turned → Type 0 where
   acts : {op : Op} {v : ℕ} {next : Run} → Acts run i op v next → Performs run i op (turned (goes_on next i v) Operation)
@@ -129,7 +134,7 @@ op-fills i (Uniting k own other Other round) = reach-fills k _ other
 op-fills i (Gathering S j got) = tt
 op-fills i (Settled S got) = tt
 
-acts-stays : {run next : Run} {i v : ℕ} {op : Op} (k c j : ℕ) → Acts run i op v next → Fills op → 0 < register_of run k c j → 0 < register_of next k c j
+acts-stays : {run : Run} {i : ℕ} {next : Run} {v : ℕ} {op : Op} (k c j : ℕ) → Acts run i op v next → Fills op → 0 < register_of run k c j → 0 < register_of next k c j
 unfolding register_of level_of with_line
 acts-stays k c j posts f h = h
 acts-stays {run} k c j (writes {k = k'} {c = c'} {j = j'} {v = v}) f h = go (register-cases run k' c' j' v k c j)
@@ -158,7 +163,7 @@ pub data LineAfter (run : Run) (i : ℕ) (op : Op) (j : ℕ) (x : Line) : Type 0
   same : x ≡ line_of run j → LineAfter run i op j x
   posted : {s : ℕ} → op ≡ Post s → j ≡ i → x ≡ written s → LineAfter run i op j x
 
-pub acts-line : {l r n w : ℕ} {run next : Run} {i v : ℕ} {op : Op} → Shape l r n w run → 1 ≤ i → i ≤ w → (j : ℕ) → 1 ≤ j → Acts run i op v next
+pub acts-line : {l r n w : ℕ} {run : Run} {i : ℕ} {next : Run} {v : ℕ} {op : Op} → Shape l r n w run → 1 ≤ i → i ≤ w → (j : ℕ) → 1 ≤ j → Acts run i op v next
     → LineAfter run i op j (line_of next j)
 unfolding line_of with_register
 acts-line {run = run} {i = i} s p h j q (posts {s = x}) = go (ℕ_discrete j i)
@@ -259,6 +264,7 @@ acts-unsettled (NotBegun x) a = refl
 acts-unsettled (Uniting k own other Own round) a = refl
 acts-unsettled (Uniting k own other Other round) a = refl
 acts-unsettled (Gathering S j got) a = refl
+acts-unsettled (Settled S got) a = elim a [ ]
 
 pub turn-row : {l r n w : ℕ} {run : Run} (i : ℕ) → Shape l r n w run → n ≤ w → Station n i → ((turn run i).did ≡ Unwritten → ⊥) → RowAfter run i (turn run i)
 turn-row {run = run} i s h st never = go (turns run i) never

@@ -1,36 +1,38 @@
 // The types of the model: what a station keeps to itself, what it does next, and the run record with the board.
 // The definitions over them are in specs/; there is no code here.
+#![tactic(auto)]
+
 use sets::limits::{LEVELS, STATIONS};
 
 // A posting line X: a set of stocks, and whether it has been written, since an empty set may be posted.
-#[derive(Drop)]
+#[derive(Clone, Copy)]
 pub struct Line {
     pub stocks: u64,
     pub written: bool,
 }
 
 // A level of the board: a row of 16 registers that hold sets of stations.
-#[derive(Drop)]
+#[derive(Clone, Copy)]
 pub struct Level {
     pub sets: [u64; STATIONS],
 }
 
 // How far the reading of an array has come: the set M in hand, and how many of the array's first registers are known to be filled.
-#[derive(Drop)]
+#[derive(Clone, Copy)]
 pub struct Reading {
     pub set: u64,
     pub known: u32,
 }
 
 // Which of its two arrays a union is at.
-#[derive(Drop)]
+#[derive(Clone, Copy)]
 pub enum Side {
     Own,
     Other,
 }
 
 // Which reading of the two arrays this is: the first one; one again, in which neither has changed so far; one again in which one has.
-#[derive(Drop)]
+#[derive(Clone, Copy)]
 pub enum Round {
     First,
     Unchanged,
@@ -38,7 +40,7 @@ pub enum Round {
 }
 
 // Where a station is in its steps.
-#[derive(Drop)]
+#[derive(Clone, Copy)]
 pub enum State {
     NotBegun {
         stocks: u64,
@@ -62,14 +64,14 @@ pub enum State {
 }
 
 // A station's row: where it is, and the number of turns that named it while it had not settled.
-#[derive(Drop)]
+#[derive(Clone, Copy)]
 pub struct Row {
     pub state: State,
     pub count: u16,
 }
 
 // One register operation, in the paper's numbers: levels, arrays, registers and stations from 1.
-#[derive(Drop)]
+#[derive(Clone, Copy)]
 pub enum Op {
     Post {
         stocks: u64,
@@ -102,7 +104,7 @@ pub struct Run {
 }
 
 // What a turn was.
-#[derive(Drop)]
+#[derive(Clone, Copy)]
 pub enum Did {
     Operation,
     Idle,

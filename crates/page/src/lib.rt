@@ -1,4 +1,5 @@
 // What gangrun prints, line by line, into a page that has room for the longest report.
+#![tactic(auto)]
 
 // Room for the longest report.
 pub const PAGE: usize = 2310;

@@ -1,4 +1,6 @@
 // A plan text, read into stations, stocks and turns, or refused at its place.
+#![tactic(auto)]
+
 ghost use Rattle.std.specs.Prelude.{◌≡◌};
 ghost use Rattle.text.specs.Refusal.{told};
 ghost use Rattle.text.specs.Plan.{reading};
@@ -10,21 +12,21 @@ use sets::limits::{BYTES, CELLS, STATIONS, STOCKS, TURNS};
 use text::{Answer, Fault};
 
 // What a line's word gives: how many there are now, or what it is refused for.
-#[derive(Drop)]
+#[derive(Clone, Copy)]
 enum Counted {
     Count(usize),
     Refused(Fault),
 }
 
 // What the codes of a `HAS` line give: how many stocks there are now and the station's set, or what it is refused for.
-#[derive(Drop)]
+#[derive(Clone, Copy)]
 enum Coded {
     Stocks { count: usize, set: u64 },
     Refused(Fault),
 }
 
 // What a later line gives: how many stocks and turns there are now, or what it is refused for.
-#[derive(Drop)]
+#[derive(Clone, Copy)]
 enum Line {
     More { stocks: usize, turns: usize },
     Refused(Fault),

@@ -1,5 +1,7 @@
 // Sets of stations and of stocks as 64-bit masks, and the arrays of a level.
 
+#![tactic(auto)]
+
 // The limits, named once for all code.
 pub mod limits;
 

@@ -1,4 +1,6 @@
 // The private part of a station: its next operation, and its state after what the operation brought. It never touches the board.
+#![tactic(auto)]
+
 ghost use Rattle.std.specs.Prelude.{◌≡◌, cond, ◌&&◌, leb};
 ghost use Rattle.method.specs.Steps.{next_op, absorb};
 

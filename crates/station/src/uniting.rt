@@ -86,7 +86,7 @@ pub fn array_in_hand(side: Side, k: u8, i: u8) -> u32
 }
 
 // The reading in hand after its operation, the round, and whether the reading is over.
-#[derive(Drop)]
+#[derive(Clone, Copy)]
 pub struct Moved {
     pub reading: Reading,
     pub round: Round,

@@ -1,9 +1,11 @@
 // The plan text: the types of what is read, and the number of a refusal. The definitions over them are in specs/.
+#![tactic(auto)]
+
 ghost use Rattle.std.specs.Prelude.{◌≡◌};
 ghost use Rattle.text.specs.Refusal.{number_of};
 
 // The rows of the table in MODEL 8, each with its number there.
-#[derive(Drop)]
+#[derive(Clone, Copy)]
 pub enum Fault {
     // 11: the text has more than 32,768 bytes
     LongText,
@@ -26,7 +28,7 @@ pub enum Fault {
 }
 
 // A plan that was read, by its counts; or the one refusal, at its place.
-#[derive(Drop)]
+#[derive(Clone, Copy)]
 pub enum Answer {
     Plan {
         stations: u8,
@@ -40,7 +42,7 @@ pub enum Answer {
 }
 
 // The first field of a later line.
-#[derive(Drop)]
+#[derive(Clone, Copy)]
 pub enum Word {
     Has,
     Turn,
@@ -48,6 +50,7 @@ pub enum Word {
 }
 
 // The number of a refusal in the table of MODEL 8.
+#[tactic(auto, unfolding(crate::specs::Refusal::number_of))]
 pub fn number_of(fault: Fault) -> u8
     ensures { result ≡ number_of fault }
 {

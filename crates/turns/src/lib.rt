@@ -1,4 +1,5 @@
 // Turns on the run record, in place.
+#![tactic(auto)]
 
 // A station's row.
 mod rows;

@@ -7,7 +7,7 @@ use super::counts;
 use method::{Did, Line, Row, State};
 
 // What a turn leaves in the station's row and in the line, and what it was.
-#[derive(Drop)]
+#[derive(Clone, Copy)]
 pub struct Lined {
     pub row: Row,
     pub line: Line,

@@ -29,7 +29,7 @@ fn index_of(number: u64) -> u64
 
 // An operation and the register that it goes to: whether it is on the record at all, its level, and its place in the level's row, both
 // counted from 0.
-#[derive(Drop)]
+#[derive(Clone, Copy)]
 pub struct Aim {
     pub op: Op,
     pub on: bool,
@@ -94,7 +94,7 @@ pub fn aim_of(i: u8, row: Row) -> Aim
 }
 
 // A line: whether it is on the record at all, and its index.
-#[derive(Drop)]
+#[derive(Clone, Copy)]
 pub struct Spot {
     pub on: bool,
     pub line: usize,

@@ -13,7 +13,7 @@ fn either(first: bool, a: u64, b: u64) -> u64
 }
 
 // What an operation brings, and what it leaves in its register.
-#[derive(Drop)]
+#[derive(Clone, Copy)]
 pub struct Effect {
     pub brought: u64,
     pub set: u64,
@@ -48,7 +48,7 @@ fn effect_of(on: bool, held: u64, op: Op) -> Effect
 }
 
 // What a turn leaves in the station's row and in the register.
-#[derive(Drop)]
+#[derive(Clone, Copy)]
 pub struct United {
     pub row: Row,
     pub set: u64,

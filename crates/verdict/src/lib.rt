@@ -1,11 +1,13 @@
 // What comes of a run call: a result, or the one refusal that is first in the table's order.
+#![tactic(auto)]
+
 ghost use Rattle.std.specs.Prelude.{◌≡◌};
 ghost use Rattle.verdict.specs.Refusals.{number_of};
 
 // The refusals before the first turn.
 pub mod tests;
 
-#[derive(Drop)]
+#[derive(Clone, Copy)]
 pub enum Verdict {
     Accepted,
     BadStationCount,

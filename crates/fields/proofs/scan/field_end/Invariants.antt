@@ -1,0 +1,19 @@
+use Prim.Native.Nat.{◌+◌, ◌-◌}
+use mathlib.Core.Path.{◌≡◌, refl, sym, ap, ◌∙◌}
+use native.Mathlib.Omega.{arith}
+use borrow.Author.Rules.{rules}
+use mathlib.Core.Bool.{not}
+use borrow.Author.Tests.{eq-eqb, ne_eqb}
+use lib.ListN.{length, get_or, drop}
+use Rattle.text.specs.Text.{run}
+use Rattle.fields.specs.Window.{no_tab}
+use Rattle.text.proofs.Runs.{run_on, run-stops, run_ends}
+use Rattle.fields.proofs.scan.field_end.Given as goal
+
+-- `fields::scan::field_end` meets its contract. Invariant: the run from the start ends where the run from i ends.
+-- Assumes nothing.
+abbrev pub invariant-loop-i : goal.invariant-loop-i
+invariant-loop-i l = l.at + run no_tab (drop l.at l.line) ≡ l.i + run no_tab (drop l.i l.line)
+
+abbrev pub decreases-loop-i : goal.decreases-loop-i
+decreases-loop-i l = length l.line - l.i
