@@ -20,10 +20,11 @@ fn page() -> [u8; PAGE]
     [0; PAGE]
 }
 
+#[tactic(auto, unfolding(report::specs::Printed::answer_of))]
 fn plan_agrees(plan: &[u8], report: &[u8]) -> bool {
     let mut page = page();
     match report::whole::print_plan(plan, &mut page) {
-        Printed::Whole(end) => check::same(&page[..end], report),
+        Printed::Whole(end) => &page[..end] == report,
         Printed::TooSmall => false,
     }
 }
@@ -63,7 +64,7 @@ fn answer_agrees(
     if returned as u64 != number {
         return false;
     }
-    check::same(answer, want)
+    &*answer == want
 }
 
 fn call_agrees(n: u64, inputs: &[u8], turns: &[u8], number: u64, want: &[u8]) -> bool {

@@ -3,11 +3,12 @@
 #![tactic(auto)]
 
 ghost use Rattle.std.specs.Prelude.{◌≡◌, ◌≤◌, length};
-ghost use Rattle.io.specs.Counts.{IsPrefixLen};
+ghost use Rattle.input.specs.Within.{IsPrefixLen};
 
 use input::Input;
 use judging::{Judged, judge_call, judge_plan};
-use libc::STDOUT_FILENO;
+use std::fs::File;
+use std::io::Error;
 
 mod judging;
 mod parts;
@@ -43,21 +44,18 @@ fn judge(kind: Kind, file: &[u8], at: usize) -> Judged
 }
 
 // One for an entry that agrees. One that differs is told.
-fn count_or_tell(path: &[u8], entry: u64, agrees: bool) -> u64
+fn count_or_tell(rt: &HostRuntime, path: &str, entry: u64, agrees: bool) -> u64
     ensures { result ≤ 1 }
 {
     if agrees {
         return 1;
     }
-    io::write_all(STDOUT_FILENO, path);
-    io::write_all(STDOUT_FILENO, b" differs at entry ");
-    io::print_decimal(STDOUT_FILENO, entry);
-    io::write_all(STDOUT_FILENO, b"\n");
+    let _ = println!(rt; "{path} differs at entry {entry}");
     0
 }
 
 // Every entry of a file, from the first on. An entry takes a byte at least, so there are no more of them than bytes.
-fn run_all(kind: Kind, path: &[u8], file: &[u8]) -> Tally {
+fn run_all(rt: &HostRuntime, kind: Kind, path: &str, file: &[u8]) -> Tally {
     let mut agree: u64 = 0;
     let mut of: u64 = 0;
     let mut at = 0;
@@ -67,7 +65,7 @@ fn run_all(kind: Kind, path: &[u8], file: &[u8]) -> Tally {
             return Tally { agree, of };
         }
         let judged = judge(kind, file, at);
-        agree += count_or_tell(path, of, judged.agrees);
+        agree += count_or_tell(rt, path, of, judged.agrees);
         of += 1;
         at = judged.next;
         k += 1;
@@ -75,46 +73,45 @@ fn run_all(kind: Kind, path: &[u8], file: &[u8]) -> Tally {
     Tally { agree, of }
 }
 
+// What failed, and why. Where standard error fails too, nothing can be told.
+fn tell(rt: &HostRuntime, path: &str, why: Error) {
+    let _ = eprintln!(rt; "{path}: {why}");
+}
+
 // A file that cannot be read whole is told, and has no entries.
-fn read_file(path: &[u8], file: &mut [u8]) -> usize
+fn read_file(rt: &HostRuntime, path: &str, file: &mut [u8]) -> usize
     ensures { IsPrefixLen result file.new }
 {
-    let fd = os::open_read(path);
-    if fd < 0 {
-        os::fail(path);
-        return 0;
-    }
-    match input::read_all(fd, file) {
-        Input::Whole(got) => {
-            libc::close(fd);
-            got
-        }
-        Input::Failed => {
-            os::fail(path);
-            libc::close(fd);
+    match File::open(rt, path) {
+        Ok(mut input) => match input::read_all(&mut input, file) {
+            Input::Whole(got) => got,
+            Input::Failed(why) => {
+                tell(rt, path, why);
+                0
+            }
+        },
+        Err(why) => {
+            tell(rt, path, why);
             0
         }
     }
 }
 
-fn run_file(kind: Kind, path: &[u8]) -> Tally {
+fn run_file(rt: &HostRuntime, kind: Kind, path: &str) -> Tally {
     let mut file = room();
-    let got = read_file(path, &mut file);
-    run_all(kind, path, &file[..got])
+    let got = read_file(rt, path, &mut file);
+    run_all(rt, kind, path, &file[..got])
 }
 
-fn tell_tally(tally: Tally, what: &[u8]) {
-    io::print_decimal(STDOUT_FILENO, tally.agree);
-    io::write_all(STDOUT_FILENO, b" of ");
-    io::print_decimal(STDOUT_FILENO, tally.of);
-    io::write_all(STDOUT_FILENO, what);
+fn tell_tally(rt: &HostRuntime, tally: Tally, what: &str) {
+    let _ = print!(rt; "{} of {}{what}", tally.agree, tally.of);
 }
 
-fn main() {
-    let plans = run_file(Kind::Plans, b"plans.bin");
-    let calls = run_file(Kind::Calls, b"calls.bin");
-    let long = run_file(Kind::Calls, b"J_and_K.bin");
-    tell_tally(plans, b" plans, ");
-    tell_tally(calls, b" calls, ");
-    tell_tally(long, b" calls of J and K agree\n");
+fn main(rt: HostRuntime) {
+    let plans = run_file(&rt, Kind::Plans, "plans.bin");
+    let calls = run_file(&rt, Kind::Calls, "calls.bin");
+    let long = run_file(&rt, Kind::Calls, "J_and_K.bin");
+    tell_tally(&rt, plans, " plans, ");
+    tell_tally(&rt, calls, " calls, ");
+    tell_tally(&rt, long, " calls of J and K agree\n");
 }

@@ -6,10 +6,10 @@ ghost use Rattle.text.specs.Limits.{most_bytes};
 ghost use Rattle.report.specs.Printed.{most_printed};
 
 use input::Input;
-use libc::{STDIN_FILENO, STDOUT_FILENO};
 use page::PAGE;
 use report::Printed;
 use sets::limits::BYTES;
+use std::io::Error;
 
 const ROOM: usize = BYTES + 1;
 
@@ -27,31 +27,37 @@ fn report_room() -> [u8; PAGE]
     [0; PAGE]
 }
 
-fn write_out(report: &[u8]) {
-    if !io::write_all(STDOUT_FILENO, report) {
-        os::fail(b"gangrun: standard output");
+// What failed, and why. Where standard error fails too, nothing can be told.
+fn tell(rt: &HostRuntime, what: &str, why: Error) {
+    let _ = eprintln!(rt; "gangrun: {what}: {why}");
+}
+
+fn write_out(rt: &HostRuntime, report: &[u8]) {
+    if let Err(why) = rt.write_all(report) {
+        tell(rt, "standard output", why);
     }
 }
 
-fn print_report(plan: &[u8]) {
+#[tactic(auto, unfolding(report::specs::Printed::answer_of))]
+fn print_report(rt: &HostRuntime, plan: &[u8]) {
     let mut page = report_room();
     match report::whole::print_plan(plan, &mut page) {
         Printed::Whole(end) => {
-            write_out(&page[..end]);
+            write_out(rt, &page[..end]);
         }
         Printed::TooSmall => {}
     }
 }
 
 // A text of which only a part was read is no plan: it is not run.
-fn main() {
+fn main(rt: HostRuntime) {
     let mut text = text_room();
-    match input::read_all(STDIN_FILENO, &mut text) {
+    match input::read_all(&mut rt.stdin(), &mut text) {
         Input::Whole(got) => {
-            print_report(&text[..got]);
+            print_report(&rt, &text[..got]);
         }
-        Input::Failed => {
-            os::fail(b"gangrun: standard input");
+        Input::Failed(why) => {
+            tell(&rt, "standard input", why);
         }
     }
 }

@@ -1,3 +1,2 @@
--- Laws for the proofs of this crate, and of those that call it.
+-- Laws for the proofs of this crate.
 mod Filling
-pub mod Taking

@@ -1,2 +1,2 @@
--- What the reading of a descriptor promises.
+-- What the reading of an input promises.
 pub mod Within

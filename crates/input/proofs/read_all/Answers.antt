@@ -1,0 +1,17 @@
+-- What one read gave joins what stood in front.
+use Rattle.std.proofs.Common.{◌-◌, ◌≤◌, length, rules, arith, sym, subst}
+use Rattle.std.specs.Io.KnownBytes.{Consumes}
+use Rattle.std.proofs.KnownBytes.{Consumes-trans}
+use Rattle.input.proofs.Filling.{filled_more}
+use Rattle.input.proofs.read_all.Goals as goal
+
+pub loop-preserved : goal.loop-preserved
+loop-preserved g c =
+    let before = c.loop.invariant in
+    let read = c.in-More.ensures in
+    let fits : c.in-More.count ≤ length c.read_some.new.rest = omega (arith, read.count) in
+    record {
+      long = search rules;
+      within = search rules;
+      gave = subst (Consumes _ _) (sym (filled_more c.loop.at (length c.loop.text - c.loop.at) c.in-More.count c.loop.text c.read_some.new.rest before.within fits)) (Consumes-trans _ _ _ _ _ before.gave read.bytes);
+    }
