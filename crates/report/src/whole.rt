@@ -69,7 +69,7 @@ fn hand_out(text: &[u8], out: &mut [u8]) -> Printed
     if out.len() < text.len() {
         return Printed::TooSmall;
     }
-    bytes::copy(text, out);
+    out[..text.len()].copy_from_slice(text);
     Printed::Whole(text.len())
 }
 
