@@ -8,7 +8,6 @@ use lib.ListN.{length, get_or, set, replicate, length-set, length-map, get_or-ma
 use lib.Seq.{ext_get_or, get_or-set_same, get_or-set_other}
 use Rattle.method.specs.declared.Row.{Row}
 use Rattle.method.specs.declared.Line.{Line}
-use Rattle.method.specs.declared.Run.{Run}
 use Rattle.method.specs.Board.{not_begun, unwritten, empty_level, depth, fresh, fresh_on}
 
 -- the first i of the 16 rows are those of the inputs

@@ -1,6 +1,6 @@
 -- MODEL 11: cases A to I as one table, and one proof over it, of the definitions that the contracts of `report::whole::print_plan` and
 -- `run::call::run_call` cite. "Where no stocks are named, station i has stock i-1 alone."
-use Rattle.std.specs.Prelude.{ℕ, zero, suc, ◌-◌, ◌^◌, ◌≡◌, refl, List, [], ◌∷◌, map, ◌++◌, replicate}
+use Rattle.std.specs.Prelude.{ℕ, zero, suc, ◌^◌, ◌≡◌, refl, List, [], ◌∷◌, map, ◌++◌, replicate}
 use Prim.Native.Char.{code}
 use Prim.Native.String.{String, [] as ends, ◌∷◌ as ◌then◌}
 use Rattle.std.specs.Int.Count.{ones}

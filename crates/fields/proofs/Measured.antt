@@ -1,7 +1,7 @@
 -- What the length of a field's code tells of the field.
-use Prim.Native.Nat.{ℕ, ◌≤◌, ◌<◌, zero-le}
+use Prim.Native.Nat.{ℕ, ◌≤◌, ◌<◌}
 use mathlib.Core.Path.{◌≡◌, refl, sym, ap, ◌∙◌}
-use mathlib.Core.Bool.{Bool, true, false, cond}
+use mathlib.Core.Bool.{Bool, true, false}
 use mathlib.Core.List.{List, [], ◌∷◌}
 use native.Mathlib.Omega.{arith}
 use lib.ListN.{length, take}
@@ -9,7 +9,7 @@ use lib.Dec.{leb}
 use borrow.Author.Tests.{le-leb, lt-leb, leb-true}
 use Rattle.text.specs.Limits.{most_code}
 use Rattle.text.specs.Code.{code_of}
-use Rattle.text.specs.Plan.{Out, taken, no, code_in, code}
+use Rattle.text.specs.Plan.{taken, no, code_in, code}
 use Rattle.text.specs.declared.Fault.TheVariants.{BadCode}
 use Rattle.text.proofs.Codes.{code-front, code-short}
 use Rattle.fields.specs.Measure.{length_of}

@@ -32,7 +32,7 @@ use Rattle.method.proofs.Rows.{RowOk, begins, unites, gathers, begun-input, row-
 use Rattle.method.proofs.Readings.{Answer, BoardOk}
 use Rattle.method.proofs.Moves.{absorb-post, absorb-line, absorb-own, absorb-other}
 use Rattle.method.proofs.Parts.{Shape, fresh-shape, fresh-register, fresh-line, fresh-row, line-put, register-put, Put, kept, anew, register-cases, put-there}
-use Rattle.method.proofs.Turns.{line-read, Acts, posts, writes, reads, reads-line, Performs, acts, idles, misses, Turns, station, nobody, turns, acts-row, acts-shape, LineAfter, same, posted, acts-line, post-begins, Gathers, gathering, read-gathers, goes-register, goes-line, goes-row, goes-shape, goes-row-other, turn-stays, named-station}
+use Rattle.method.proofs.Turns.{line-read, Acts, posts, writes, reads, Performs, acts, idles, misses, Turns, station, nobody, turns, acts-row, acts-shape, LineAfter, same, posted, acts-line, post-begins, Gathers, gathering, read-gathers, goes-register, goes-line, goes-row, goes-shape, goes-row-other, turn-stays, named-station}
 
 -- the board of a run, at every moment
 abbrev pub board : Run → List ℕ → History

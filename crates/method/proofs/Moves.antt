@@ -26,7 +26,7 @@ use Rattle.method.specs.Steps.{gather_at, gather, reading, climb, writing, pendi
 use Rattle.method.specs.Demand.{gathered}
 use Rattle.method.proofs.Brought.{History, Lasting, Full, Stop, Stood, Brought, single, join, brought-size, brought-posted, brought-nothing, comparable, stop-earlier}
 use Rattle.method.proofs.Potential.{left, left-start, left-mono, left-own-found, left-own-written, left-other-found, left-other-written, left-own-empty, left-other-empty}
-use Rattle.method.proofs.Rows.{Written, calm, Seen, own_open, other-open, own-calm, other-calm, rest, due, at, Pair, Spent, RowOk, unites, gathers, settled}
+use Rattle.method.proofs.Rows.{Written, calm, Seen, own_open, other-open, own-calm, other-calm, rest, due, Pair, Spent, RowOk, unites, gathers, settled}
 use Rattle.method.proofs.Readings.{pending-read, written, written-full, over, full-up, Answer, BoardOk, wrote-read, stops, found-read}
 use Rattle.method.proofs.Gathering.{gathered-member, gathered-same}
 

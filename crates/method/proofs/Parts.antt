@@ -14,7 +14,7 @@ use Rattle.method.specs.declared.Line.{Line}
 use Rattle.method.specs.declared.Level.{Level}
 use Rattle.method.specs.declared.Row.{Row}
 use Rattle.method.specs.declared.Run.{Run}
-use Rattle.method.specs.Board.{depth, written, unwritten, empty_level, not_begun, fresh_on, row_of, line_of, level_of, register_of, with_row, with_line, with_register}
+use Rattle.method.specs.Board.{depth, unwritten, empty_level, not_begun, fresh_on, row_of, line_of, level_of, register_of, with_row, with_line, with_register}
 
 -- a run record for n stations, with l levels of r registers, and a line and a row for each of w inputs
 pub record Shape (l r n w : ℕ) (run : Run) : Type 0 where

@@ -11,7 +11,7 @@ use Rattle.sets.proofs.Blocks.{block-length}
 use Rattle.method.specs.declared.Reading.{Reading}
 use Rattle.method.specs.Steps.{writing, pending, wrote, found}
 use Rattle.method.proofs.Brought.{History, Full, Stop, Brought}
-use Rattle.method.proofs.Rows.{Read, Written, at}
+use Rattle.method.proofs.Rows.{Read, Written}
 
 -- a reading that has an operation left but nothing to write
 pub pending-read : (d : ℕ) (r : Reading) → pending (suc d) r ≡ true → writing r ≡ false → size r.set < 2 ^ d

@@ -1,7 +1,6 @@
 -- A call that passed the tests: what is played on the record is the method's run, and the answer is its rows.
 use Prim.Native.Nat.{ℕ, zero, suc, ◌≤◌, ◌<◌}
 use mathlib.Core.Path.{◌≡◌, refl, sym, ap, ◌∙◌}
-use mathlib.Core.Bool.{not}
 use mathlib.Core.List.{List}
 use native.Mathlib.Nat.{le_antisymm, le_refl}
 use native.Mathlib.Omega.{arith}

@@ -5,7 +5,6 @@ use mathlib.Core.Logic.{◌⊎◌, inl, inr, ⊎_elim}
 use mathlib.Core.Bool.{Bool, true, false}
 use native.Mathlib.Nat.{div-eq_of_lt, lt_of_lt_of_le, eq-or-lt_of_le, two-pow-succ, zero-div, div-one, le_trans, div-le_self}
 use native.Mathlib.Decide.{dec_lt}
-use native.Mathlib.Numerals.{add-one}
 use native.Mathlib.Omega.{arith}
 use borrow.Author.Tests.{eqb-true, eqb-false}
 use lib.Dec.{eqb}

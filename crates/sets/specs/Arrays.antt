@@ -1,6 +1,6 @@
 -- The arrays of a level: MODEL 2 and 3. Levels, arrays and registers are counted from 1.
 -- Executable.
-use Rattle.std.specs.Prelude.{ℕ, zero, suc, ◌+◌, ◌-◌, ◌*◌, ◌/◌, ◌%◌, ◌^◌, Bool, true, false, eqb}
+use Rattle.std.specs.Prelude.{ℕ, ◌+◌, ◌-◌, ◌*◌, ◌/◌, ◌%◌, ◌^◌, Bool, true, false, eqb}
 
 -- "level k into arrays of 2^(k-1) registers"
 unfoldable pub array_length : ℕ → ℕ

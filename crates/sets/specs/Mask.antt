@@ -1,6 +1,6 @@
 -- A set as a mask: MODEL 1. "As a number, a set has the binary digit 2^(i-1) for station i".
 -- Executable; no width is built in.
-use Rattle.std.specs.Prelude.{ℕ, zero, suc, ◌+◌, ◌-◌, ◌/◌, ◌%◌, ◌^◌, ◌≤◌, Bool, true, false, cond, ◌&&◌, eqb, leb}
+use Rattle.std.specs.Prelude.{ℕ, zero, suc, ◌-◌, ◌/◌, ◌%◌, ◌^◌, ◌≤◌, Bool, true, false, cond, ◌&&◌, eqb, leb}
 use Rattle.std.specs.Int.Bits.{bit_or}
 use Rattle.std.specs.Int.Count.{ones}
 

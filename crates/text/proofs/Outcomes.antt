@@ -17,7 +17,7 @@ use borrow.Author.Tests.{ltb-true, ltb-false, leb-true, eqb-true, eqb-false}
 use Rattle.method.specs.Demand.{Station}
 use Rattle.text.specs.Limits.{most_bytes, most_stations, most_stocks, most_turns, most_code}
 use Rattle.text.specs.Text.{LF, space, joined, parted, lines_of, fields_of, all, fine, run, run_more, same}
-use Rattle.text.specs.Number.{empty, number_to}
+use Rattle.text.specs.Number.{number_to}
 use Rattle.text.specs.Code.{before, code_of, stock_of}
 use Rattle.text.specs.Refusal.{number_of}
 use Rattle.text.specs.Plan.{Out, taken, no, then, each, station_in, station, take_turn, code_in, code, Holding, holding, with_stock, add_stock, take_code, Stocked, has_line, turn_line, Held, fresh, GANG, word_of, word_line, later_fields, later_line, gang_in, gang_of, first_line, Reading, plan, refused, at_line, later_lines, all_lines, sized, reading}

@@ -1,5 +1,5 @@
 -- A look through an order of turns for the first that would read a line never written, and the record on the way.
-use Prim.Native.Nat.{ℕ, ◌+◌, ◌-◌, ◌≤◌, ◌<◌}
+use Prim.Native.Nat.{ℕ, ◌+◌, ◌≤◌, ◌<◌}
 use mathlib.Core.Path.{◌≡◌, refl, sym, subst, ◌∙◌}
 use mathlib.Core.Bool.{Bool, true, false, cond, ◌&&◌, and-false}
 use mathlib.Core.List.{List}

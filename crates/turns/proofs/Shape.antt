@@ -1,5 +1,5 @@
 -- The run record's type says how many rows, lines, levels and registers it has.
-use mathlib.Core.Path.{◌≡◌, sym, subst}
+use mathlib.Core.Path.{sym, subst}
 use Prim.Native.Nat.{ℕ, zero, suc, ◌<◌}
 use native.Mathlib.Nat.{not-suc-le-zero, le_of_suc-le-suc}
 use mathlib.Core.List.{List, [], ◌∷◌}

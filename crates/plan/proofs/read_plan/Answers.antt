@@ -1,5 +1,4 @@
 use mathlib.Core.Path.{◌∙◌}
-use borrow.Author.Rules.{rules}
 use Rattle.plan.specs.Hand.{hand}
 use Rattle.text.proofs.Lengths.{too_long, not-too-long}
 use Rattle.text.proofs.Answers.{refused-out}

@@ -1,8 +1,5 @@
-use Prim.Native.Nat.{◌-◌, ◌*◌, ◌≤◌}
-use mathlib.Core.List.{◌++◌}
 use mathlib.Core.Path.{◌∙◌, refl, ◌≡◌}
 use native.Mathlib.Omega.{arith}
-use lib.ListN.{length, drop}
 use Rattle.method.specs.Board.{not_begun}
 use Rattle.answer.proofs.Laid.{laid-turn}
 use Rattle.answer.specs.Answer.{answer_bytes}

@@ -1,10 +1,7 @@
 use Prim.Native.Nat.{◌-◌, ◌*◌, ◌≤◌}
 use mathlib.Core.List.{◌++◌}
-use mathlib.Core.Path.{◌∙◌, refl, ◌≡◌}
-use native.Mathlib.Omega.{arith}
+use mathlib.Core.Path.{◌≡◌}
 use lib.ListN.{length, drop}
-use Rattle.method.specs.Board.{not_begun}
-use Rattle.answer.proofs.Laid.{laid-turn}
 use Rattle.answer.specs.Answer.{answer_bytes}
 use Rattle.answer.proofs.told.put_rows.Given as goal
 

@@ -1,6 +1,5 @@
-use Prim.Native.Nat.{◌-◌}
 use native.Mathlib.Omega.{arith}
-use Rattle.answer.proofs.Little.{Putting, putting-none, putting-more, putting-all}
+use Rattle.answer.proofs.Little.{putting-none, putting-more, putting-all}
 use Rattle.answer.proofs.words.put_number.Goals as goal
 
 pub loop-i-init : goal.loop-i-init

@@ -1,6 +1,5 @@
 use Prim.Native.Nat.{◌-◌}
-use native.Mathlib.Omega.{arith}
-use Rattle.answer.proofs.Little.{Putting, putting-none, putting-more, putting-all}
+use Rattle.answer.proofs.Little.{Putting}
 use Rattle.answer.proofs.words.put_number.Given as goal
 
 abbrev pub invariant-loop-i : goal.invariant-loop-i

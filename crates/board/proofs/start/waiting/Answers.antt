@@ -1,8 +1,7 @@
-use Prim.Native.Nat.{◌-◌, ◌≤◌}
 use mathlib.Core.Path.{◌≡◌, refl}
 use native.Mathlib.Omega.{arith}
 use borrow.Author.Rules.{rules}
-use Rattle.board.proofs.Filled.{Filled, none_filled, one_more, all-filled}
+use Rattle.board.proofs.Filled.{none_filled, one_more, all-filled}
 use Rattle.board.proofs.start.waiting.Goals as goal
 
 pub loop-i-init : goal.loop-i-init

@@ -1,8 +1,5 @@
 use Prim.Native.Nat.{◌-◌, ◌≤◌}
-use mathlib.Core.Path.{◌≡◌, refl}
-use native.Mathlib.Omega.{arith}
-use borrow.Author.Rules.{rules}
-use Rattle.board.proofs.Filled.{Filled, none_filled, one_more, all-filled}
+use Rattle.board.proofs.Filled.{Filled}
 use Rattle.board.proofs.start.waiting.Given as goal
 
 abbrev pub invariant-loop-i : goal.invariant-loop-i

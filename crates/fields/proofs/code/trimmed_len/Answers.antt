@@ -1,8 +1,6 @@
-use Prim.Native.Nat.{◌≤◌}
-use mathlib.Core.Path.{◌≡◌, sym, ap}
+use mathlib.Core.Path.{sym, ap}
 use native.Mathlib.Omega.{arith}
 use borrow.Author.Rules.{rules}
-use lib.ListN.{length, take}
 use lib.Seq.{take-length}
 use Rattle.text.specs.Code.{code_of}
 use Rattle.text.proofs.Codes.{trim-space, trim-solid, trim-all}

@@ -1,11 +1,7 @@
 use Prim.Native.Nat.{◌≤◌}
-use mathlib.Core.Path.{◌≡◌, sym, ap}
-use native.Mathlib.Omega.{arith}
-use borrow.Author.Rules.{rules}
+use mathlib.Core.Path.{◌≡◌}
 use lib.ListN.{length, take}
-use lib.Seq.{take-length}
 use Rattle.text.specs.Code.{code_of}
-use Rattle.text.proofs.Codes.{trim-space, trim-solid, trim-all}
 use Rattle.fields.proofs.code.trimmed_len.Given as goal
 
 -- `fields::code::trimmed_len` meets its contract. Invariant: only spaces have gone, so what is left of the front is what is left of the whole.

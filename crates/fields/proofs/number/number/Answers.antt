@@ -1,10 +1,7 @@
-use Prim.Native.Nat.{◌-◌, ◌<◌}
-use mathlib.Core.Path.{◌≡◌, refl, sym, ◌∙◌}
+use mathlib.Core.Path.{refl, sym, ◌∙◌}
 use native.Mathlib.Omega.{arith}
-use borrow.Author.Rules.{rules}
-use lib.ListN.{length, drop}
-use Rattle.text.specs.Number.{number_to}
-use Rattle.text.proofs.Numbers.{to_go, field-none, field-low, field-high, field-digit, past, on-digit, on-low, on-high, to_end}
+use lib.ListN.{drop}
+use Rattle.text.proofs.Numbers.{field-none, field-low, field-high, field-digit, past, on-digit, on-low, on-high, to_end}
 use Rattle.fields.proofs.number.number.Goals as goal
 
 pub returns-then-field-eq0 : goal.returns-then-field-eq0

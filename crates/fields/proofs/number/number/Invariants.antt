@@ -1,10 +1,8 @@
 use Prim.Native.Nat.{◌-◌, ◌<◌}
-use mathlib.Core.Path.{◌≡◌, refl, sym, ◌∙◌}
-use native.Mathlib.Omega.{arith}
-use borrow.Author.Rules.{rules}
+use mathlib.Core.Path.{◌≡◌}
 use lib.ListN.{length, drop}
 use Rattle.text.specs.Number.{number_to}
-use Rattle.text.proofs.Numbers.{to_go, field-none, field-low, field-high, field-digit, past, on-digit, on-low, on-high, to_end}
+use Rattle.text.proofs.Numbers.{to_go}
 use Rattle.fields.proofs.number.number.Given as goal
 
 -- `fields::number::number` meets its contract. Invariant: the field's number is what the value so far gives with the digits that are left.

@@ -1,11 +1,8 @@
-use Prim.Native.Nat.{◌+◌, ◌-◌}
-use mathlib.Core.Path.{◌≡◌, refl, sym, ap, ◌∙◌}
-use native.Mathlib.Omega.{arith}
+use mathlib.Core.Path.{sym, ap, ◌∙◌}
 use borrow.Author.Rules.{rules}
 use mathlib.Core.Bool.{not}
 use borrow.Author.Tests.{eq-eqb, ne_eqb}
-use lib.ListN.{length, get_or, drop}
-use Rattle.text.specs.Text.{run}
+use lib.ListN.{get_or}
 use Rattle.fields.specs.Window.{no_tab}
 use Rattle.text.proofs.Runs.{run_on, run-stops, run_ends}
 use Rattle.fields.proofs.scan.field_end.Goals as goal

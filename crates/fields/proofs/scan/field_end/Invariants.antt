@@ -1,13 +1,8 @@
 use Prim.Native.Nat.{◌+◌, ◌-◌}
-use mathlib.Core.Path.{◌≡◌, refl, sym, ap, ◌∙◌}
-use native.Mathlib.Omega.{arith}
-use borrow.Author.Rules.{rules}
-use mathlib.Core.Bool.{not}
-use borrow.Author.Tests.{eq-eqb, ne_eqb}
-use lib.ListN.{length, get_or, drop}
+use mathlib.Core.Path.{◌≡◌}
+use lib.ListN.{length, drop}
 use Rattle.text.specs.Text.{run}
 use Rattle.fields.specs.Window.{no_tab}
-use Rattle.text.proofs.Runs.{run_on, run-stops, run_ends}
 use Rattle.fields.proofs.scan.field_end.Given as goal
 
 -- `fields::scan::field_end` meets its contract. Invariant: the run from the start ends where the run from i ends.

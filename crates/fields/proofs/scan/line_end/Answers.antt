@@ -1,9 +1,6 @@
-use Prim.Native.Nat.{◌+◌, ◌-◌}
-use mathlib.Core.Path.{◌≡◌, refl, sym, ◌∙◌}
-use native.Mathlib.Omega.{arith}
+use mathlib.Core.Path.{sym, ◌∙◌}
 use borrow.Author.Rules.{rules}
-use lib.ListN.{length, drop}
-use Rattle.text.specs.Text.{fine, run}
+use Rattle.text.specs.Text.{fine}
 use Rattle.text.proofs.Runs.{run_on, run-stops, run_ends}
 use Rattle.fields.proofs.scan.line_end.Goals as goal
 

@@ -1,10 +1,7 @@
 use Prim.Native.Nat.{◌+◌, ◌-◌}
-use mathlib.Core.Path.{◌≡◌, refl, sym, ◌∙◌}
-use native.Mathlib.Omega.{arith}
-use borrow.Author.Rules.{rules}
+use mathlib.Core.Path.{◌≡◌}
 use lib.ListN.{length, drop}
 use Rattle.text.specs.Text.{fine, run}
-use Rattle.text.proofs.Runs.{run_on, run-stops, run_ends}
 use Rattle.fields.proofs.scan.line_end.Given as goal
 
 -- `fields::scan::line_end` meets its contract. Invariant: the run from the start ends where the run from i ends.

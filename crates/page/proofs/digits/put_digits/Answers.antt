@@ -1,6 +1,6 @@
 use native.Mathlib.Omega.{arith}
 use native.Mathlib.Nat.{mod-lt, lt_of_lt_of_le}
-use Rattle.page.proofs.Numerals.{Digited, digited-none, digited-more, digited-all}
+use Rattle.page.proofs.Numerals.{digited-none, digited-more, digited-all}
 use Rattle.page.proofs.digits.put_digits.Goals as goal
 
 pub loop-left-init : goal.loop-left-init

@@ -1,6 +1,4 @@
-use native.Mathlib.Omega.{arith}
-use native.Mathlib.Nat.{mod-lt, lt_of_lt_of_le}
-use Rattle.page.proofs.Numerals.{Digited, digited-none, digited-more, digited-all}
+use Rattle.page.proofs.Numerals.{Digited}
 use Rattle.page.proofs.digits.put_digits.Given as goal
 
 abbrev pub invariant-loop-left : goal.invariant-loop-left

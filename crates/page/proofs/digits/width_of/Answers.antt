@@ -1,5 +1,5 @@
 use native.Mathlib.Omega.{arith}
-use Rattle.page.proofs.Numerals.{Counted, counted_none, counted-more, counted-all}
+use Rattle.page.proofs.Numerals.{counted_none, counted-more, counted-all}
 use Rattle.page.proofs.digits.width_of.Goals as goal
 
 pub loop-rest-init : goal.loop-rest-init

@@ -1,5 +1,4 @@
-use native.Mathlib.Omega.{arith}
-use Rattle.page.proofs.Numerals.{Counted, counted_none, counted-more, counted-all}
+use Rattle.page.proofs.Numerals.{Counted}
 use Rattle.page.proofs.digits.width_of.Given as goal
 
 abbrev pub invariant-loop-rest : goal.invariant-loop-rest

@@ -1,9 +1,9 @@
-use Prim.Native.Nat.{ℕ, ◌+◌, ◌-◌}
+use Prim.Native.Nat.{ℕ, ◌+◌}
 use mathlib.Core.Path.{refl, ap, ◌∙◌}
 use native.Mathlib.Omega.{arith}
 use mathlib.Core.List.{List}
-use lib.ListN.{length, get_or, set, length-set}
-use Rattle.page.proofs.Laying.{Copied, copied_more, copied_all}
+use lib.ListN.{get_or, set, length-set}
+use Rattle.page.proofs.Laying.{copied_more, copied_all}
 use Rattle.page.proofs.fields.put_bytes.Goals as goal
 
 pub loop-i-init : goal.loop-i-init

@@ -1,9 +1,6 @@
-use Prim.Native.Nat.{ℕ, ◌+◌, ◌-◌}
-use mathlib.Core.Path.{refl, ap, ◌∙◌}
-use native.Mathlib.Omega.{arith}
-use mathlib.Core.List.{List}
-use lib.ListN.{length, get_or, set, length-set}
-use Rattle.page.proofs.Laying.{Copied, copied_more, copied_all}
+use Prim.Native.Nat.{◌-◌}
+use lib.ListN.{length}
+use Rattle.page.proofs.Laying.{Copied}
 use Rattle.page.proofs.fields.put_bytes.Given as goal
 
 abbrev pub invariant-loop-i : goal.invariant-loop-i

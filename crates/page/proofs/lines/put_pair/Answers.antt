@@ -1,4 +1,3 @@
-use native.Mathlib.Omega.{arith}
 use Rattle.page.proofs.Lining.{pair_put}
 use borrow.Author.Rules.{rules}
 use Rattle.page.proofs.lines.put_pair.Goals as goal

@@ -1,4 +1,3 @@
-use native.Mathlib.Omega.{arith}
 use Rattle.page.proofs.Lining.{stock-put}
 use borrow.Author.Rules.{rules}
 use Rattle.page.proofs.lines.put_stock.Goals as goal

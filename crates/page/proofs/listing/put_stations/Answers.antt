@@ -1,10 +1,8 @@
-use Prim.Native.Nat.{◌+◌, ◌-◌, ◌*◌, ◌≤◌}
 use mathlib.Core.Path.{◌≡◌, refl, ◌∙◌}
 use native.Mathlib.Omega.{arith}
-use lib.ListN.{length, take}
-use Rattle.page.specs.Lines.{numbered, station_line, most_station}
-use Rattle.page.proofs.Laying.{Putting, putting-none, putting-more, putting-all}
-use Rattle.page.proofs.Listed.{stations_from, stations-more, stations-all}
+use lib.ListN.{length}
+use Rattle.page.proofs.Laying.{putting-none, putting-more, putting-all}
+use Rattle.page.proofs.Listed.{stations-more, stations-all}
 use Rattle.page.proofs.listing.put_stations.Goals as goal
 
 pub loop-i-init : goal.loop-i-init

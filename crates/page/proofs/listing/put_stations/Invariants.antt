@@ -1,10 +1,9 @@
 use Prim.Native.Nat.{◌+◌, ◌-◌, ◌*◌, ◌≤◌}
-use mathlib.Core.Path.{◌≡◌, refl, ◌∙◌}
-use native.Mathlib.Omega.{arith}
+use mathlib.Core.Path.{◌≡◌}
 use lib.ListN.{length, take}
 use Rattle.page.specs.Lines.{numbered, station_line, most_station}
-use Rattle.page.proofs.Laying.{Putting, putting-none, putting-more, putting-all}
-use Rattle.page.proofs.Listed.{stations_from, stations-more, stations-all}
+use Rattle.page.proofs.Laying.{Putting}
+use Rattle.page.proofs.Listed.{stations_from}
 use Rattle.page.proofs.listing.put_stations.Given as goal
 
 abbrev pub invariant-loop-i : goal.invariant-loop-i

@@ -1,11 +1,8 @@
-use Prim.Native.Nat.{◌+◌, ◌-◌, ◌*◌, ◌≤◌}
-use mathlib.Core.Path.{◌≡◌, refl, ◌∙◌}
+use mathlib.Core.Path.{refl, ◌∙◌}
 use native.Mathlib.Omega.{arith}
-use lib.ListN.{length, length-take}
-use Rattle.page.specs.Lines.{numbered, stock_line, most_stock}
-use Rattle.page.specs.Put.{codes_from}
-use Rattle.page.proofs.Laying.{Putting, putting-none, putting-more, putting-all}
-use Rattle.page.proofs.Listed.{stocks_from, stocks-none, stocks-more, stocks-all}
+use lib.ListN.{length-take}
+use Rattle.page.proofs.Laying.{putting-none, putting-more, putting-all}
+use Rattle.page.proofs.Listed.{stocks-none, stocks-more, stocks-all}
 use Rattle.page.proofs.listing.put_stocks.Goals as goal
 
 pub loop-k-init : goal.loop-k-init

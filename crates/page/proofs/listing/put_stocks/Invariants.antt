@@ -1,11 +1,10 @@
 use Prim.Native.Nat.{◌+◌, ◌-◌, ◌*◌, ◌≤◌}
-use mathlib.Core.Path.{◌≡◌, refl, ◌∙◌}
-use native.Mathlib.Omega.{arith}
-use lib.ListN.{length, length-take}
+use mathlib.Core.Path.{◌≡◌}
+use lib.ListN.{length}
 use Rattle.page.specs.Lines.{numbered, stock_line, most_stock}
 use Rattle.page.specs.Put.{codes_from}
-use Rattle.page.proofs.Laying.{Putting, putting-none, putting-more, putting-all}
-use Rattle.page.proofs.Listed.{stocks_from, stocks-none, stocks-more, stocks-all}
+use Rattle.page.proofs.Laying.{Putting}
+use Rattle.page.proofs.Listed.{stocks_from}
 use Rattle.page.proofs.listing.put_stocks.Given as goal
 
 abbrev pub invariant-loop-k : goal.invariant-loop-k

@@ -1,11 +1,7 @@
-use Prim.Native.Nat.{ℕ, ◌+◌, ◌-◌, ◌≤◌}
-use mathlib.Core.Path.{◌≡◌, ap, ◌∙◌}
-use native.Mathlib.Omega.{arith}
-use mathlib.Core.List.{List}
-use lib.ListN.{get_or, set}
-use lib.Seq.{paste, paste-zero}
+use Prim.Native.Nat.{◌+◌, ◌-◌, ◌≤◌}
+use mathlib.Core.Path.{◌≡◌}
+use lib.Seq.{paste}
 use Rattle.fields.specs.Window.{part}
-use Rattle.plan.proofs.Celled.{byte_more}
 use Rattle.plan.proofs.cells.put_code.Given as goal
 
 -- `plan::cells::put_code` meets its contract. Invariant: the first i bytes of the code stand in the cells.

@@ -1,13 +1,8 @@
-use Prim.Native.Nat.{ℕ, ◌-◌, ◌*◌, ◌≤◌}
-use mathlib.Core.Path.{◌≡◌, refl, ap, ◌∙◌}
-use native.Mathlib.Omega.{arith}
-use mathlib.Core.List.{List}
-use lib.ListN.{length, get_or}
-use lib.Seq.{paste}
+use Prim.Native.Nat.{◌-◌, ◌*◌, ◌≤◌}
+use mathlib.Core.Path.{◌≡◌}
 use Rattle.text.specs.Limits.{most_stocks, most_code}
-use Rattle.plan.specs.Hand.{code_at, codes_in}
+use Rattle.plan.specs.Hand.{codes_in}
 use Rattle.text.specs.Buffers.{padded, cells_of}
-use Rattle.plan.proofs.Celled.{code-more, cells-there}
 use Rattle.plan.proofs.cells.put_codes.Given as goal
 
 -- `plan::cells::put_codes` meets its contract. Invariant: the first k codes stand in their cells, and the rest is 0.

@@ -1,10 +1,7 @@
-use Prim.Native.Nat.{◌-◌}
-use mathlib.Core.Path.{◌≡◌, refl, sym, ◌∙◌}
+use mathlib.Core.Path.{sym, ◌∙◌}
 use native.Mathlib.Omega.{arith}
 use borrow.Author.Rules.{rules}
 use native.Mathlib.Numerals.{add-one}
-use lib.ListN.{length, drop}
-use Rattle.plan.specs.Key.{key_on}
 use Rattle.plan.proofs.Keys.{key-on, key-ends}
 use Rattle.plan.proofs.compare.key_of.Goals as goal
 

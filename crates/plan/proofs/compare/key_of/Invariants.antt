@@ -1,11 +1,7 @@
 use Prim.Native.Nat.{◌-◌}
-use mathlib.Core.Path.{◌≡◌, refl, sym, ◌∙◌}
-use native.Mathlib.Omega.{arith}
-use borrow.Author.Rules.{rules}
-use native.Mathlib.Numerals.{add-one}
+use mathlib.Core.Path.{◌≡◌}
 use lib.ListN.{length, drop}
 use Rattle.plan.specs.Key.{key_on}
-use Rattle.plan.proofs.Keys.{key-on, key-ends}
 use Rattle.plan.proofs.compare.key_of.Given as goal
 
 -- `plan::compare::key_of` meets its contract. Invariant: the key of the whole is the key so far with what is left.

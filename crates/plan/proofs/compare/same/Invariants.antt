@@ -1,10 +1,7 @@
 use Prim.Native.Nat.{◌-◌, ◌≤◌}
-use mathlib.Core.Path.{◌≡◌, refl, sym, ◌∙◌}
-use native.Mathlib.Omega.{arith}
-use borrow.Author.Rules.{rules}
+use mathlib.Core.Path.{◌≡◌}
 use lib.ListN.{length, drop}
 use Rattle.text.specs.Text.{same}
-use Rattle.text.proofs.Runs.{same_length, same-on, same-stops, same_ends}
 use Rattle.plan.proofs.compare.same.Given as goal
 
 -- `plan::compare::same` meets its contract. Invariant: the two are the same just where what is left of them is.

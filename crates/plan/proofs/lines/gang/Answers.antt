@@ -1,7 +1,6 @@
 use Prim.Native.Nat.{◌+◌}
 use mathlib.Core.Path.{sym, ◌∙◌}
 use native.Mathlib.Omega.{arith}
-use borrow.Author.Rules.{rules}
 use lib.Seq.{length-take-le}
 use Rattle.plan.proofs.Windows.{field-most}
 use Rattle.plan.proofs.GangLines.{gang-alone, gang-other, gang-long, gang-is}

@@ -1,11 +1,8 @@
-use Prim.Native.Nat.{◌+◌, ◌-◌, ◌≤◌}
-use mathlib.Core.Path.{◌≡◌, refl, sym, ◌∙◌}
+use Prim.Native.Nat.{◌≤◌}
+use mathlib.Core.Path.{refl, sym, ◌∙◌}
 use native.Mathlib.Omega.{arith}
-use borrow.Author.Rules.{rules}
-use lib.ListN.{length, drop}
-use Rattle.text.specs.Text.{lines_of}
-use Rattle.text.specs.Plan.{later_lines}
-use Rattle.plan.specs.Hand.{hand, held_of, PlanIn}
+use lib.ListN.{length}
+use Rattle.plan.specs.Hand.{hand, held_of}
 use Rattle.plan.proofs.Windows.{line-most}
 use Rattle.plan.proofs.LineWays.{more-gives, more-kept, bad-gives}
 use Rattle.plan.proofs.Later.{no_line, line-strayed, line_taken, line_refused}
@@ -53,8 +50,7 @@ loop-i-preserved c =
     let a = c.args in
     let l = c.loop-i in
     let f = c.line_end-end in
-    let t = c.later_line-r in
-    (
+    let t = c.later_line-r in (
       more-kept t.ensures c.in-More.s c.in-More.t c.in-More.is,
       line_taken a.text.now _ l.line (held_of a.text.now a.n (hand l.sets l.starts l.lens l.keys l.turns) l.stocks l.turned) l.i l.invariant.1
           c.loop-i-test.true f.result f.ensures (sym c.strays.ensures ∙ c.if-strays.false)

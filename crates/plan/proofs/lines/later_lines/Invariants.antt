@@ -1,14 +1,9 @@
 use Prim.Native.Nat.{◌+◌, ◌-◌, ◌≤◌}
-use mathlib.Core.Path.{◌≡◌, refl, sym, ◌∙◌}
-use native.Mathlib.Omega.{arith}
-use borrow.Author.Rules.{rules}
+use mathlib.Core.Path.{◌≡◌}
 use lib.ListN.{length, drop}
 use Rattle.text.specs.Text.{lines_of}
 use Rattle.text.specs.Plan.{later_lines}
 use Rattle.plan.specs.Hand.{hand, held_of, PlanIn}
-use Rattle.plan.proofs.Windows.{line-most}
-use Rattle.plan.proofs.LineWays.{more-gives, more-kept, bad-gives}
-use Rattle.plan.proofs.Later.{no_line, line-strayed, line_taken, line_refused}
 use Rattle.plan.proofs.lines.later_lines.Given as goal
 
 -- `plan::lines::later_lines` meets its contract. Invariant: the lines from the start give what the lines from i give with the plan so far.

@@ -1,5 +1,4 @@
 use mathlib.Core.Path.{◌≡◌, sym, ◌∙◌}
-use borrow.Author.Rules.{rules}
 use mathlib.Core.Bool.{true, false}
 use Rattle.text.specs.Text.{same}
 use Rattle.text.specs.Plan.{HAS, TURN, word_of}

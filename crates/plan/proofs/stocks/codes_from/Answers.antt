@@ -1,12 +1,9 @@
-use Prim.Native.Nat.{suc, ◌-◌, ◌≤◌}
-use mathlib.Core.Path.{◌≡◌, refl, sym}
+use Prim.Native.Nat.{◌≤◌}
+use mathlib.Core.Path.{refl, sym}
 use native.Mathlib.Omega.{arith}
-use borrow.Author.Rules.{rules}
-use lib.ListN.{set}
 use lib.Seq.{length-take-le}
-use Rattle.text.specs.Plan.{each, take_code, holding}
-use Rattle.fields.specs.Window.{fields_from}
-use Rattle.plan.specs.Hand.{Table, codes_in}
+use Rattle.text.specs.Plan.{take_code, holding}
+use Rattle.plan.specs.Hand.{codes_in}
 use Rattle.plan.proofs.Windows.{field-most}
 use Rattle.plan.proofs.Fields.{no_field, field-taken, field-refused}
 use Rattle.plan.proofs.Coding.{stocks-gives, stocks-kept, refused-gives}
@@ -40,8 +37,7 @@ loop-i-smaller c = omega (arith, c.field_end-e.ensures, c.loop-i-test.true)
 pub loop-i-preserved : goal.loop-i-preserved
 loop-i-preserved c =
     let l = c.loop-i in
-    let t = c.take_code-r in
-    (
+    let t = c.take_code-r in (
       stocks-kept t.ensures c.in-Stocks.more c.in-Stocks.wider c.in-Stocks.is,
       field-taken take_code c.args.text.now c.args.end c.requires.ends _ (holding (codes_in c.args.text.now l.starts l.lens l.k) l.s) l.i l.invariant.1
           c.field_end-e.result c.loop-i-test.true c.field_end-e.ensures _ (stocks-gives t.ensures c.in-Stocks.more c.in-Stocks.wider c.in-Stocks.is),

@@ -1,15 +1,8 @@
-use Prim.Native.Nat.{suc, ◌-◌, ◌≤◌}
-use mathlib.Core.Path.{◌≡◌, refl, sym}
-use native.Mathlib.Omega.{arith}
-use borrow.Author.Rules.{rules}
-use lib.ListN.{set}
-use lib.Seq.{length-take-le}
+use Prim.Native.Nat.{suc, ◌-◌}
+use mathlib.Core.Path.{◌≡◌}
 use Rattle.text.specs.Plan.{each, take_code, holding}
 use Rattle.fields.specs.Window.{fields_from}
 use Rattle.plan.specs.Hand.{Table, codes_in}
-use Rattle.plan.proofs.Windows.{field-most}
-use Rattle.plan.proofs.Fields.{no_field, field-taken, field-refused}
-use Rattle.plan.proofs.Coding.{stocks-gives, stocks-kept, refused-gives}
 use Rattle.plan.proofs.stocks.codes_from.Given as goal
 
 -- `plan::stocks::codes_from` meets its contract. Invariant: the fields from the start give what the fields from i give with the table and the set so far.

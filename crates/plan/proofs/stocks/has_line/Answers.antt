@@ -1,6 +1,5 @@
 use mathlib.Core.Path.{sym}
 use native.Mathlib.Omega.{arith}
-use borrow.Author.Rules.{rules}
 use lib.Seq.{length-take-le}
 use Rattle.fields.specs.Window.{part}
 use Rattle.text.proofs.Numbers.{number-most}
@@ -42,4 +41,3 @@ pub returns-in-Refused : goal.returns-in-Refused
 returns-in-Refused c =
     read-refused c.args.at c.requires c.if-at-end.false c.field_end-e.ensures c.if-e-end.false
     c.number-station.ensures c.if-station-eq0.false c.codes_from-r.ensures c.in-Refused.fault c.in-Refused.is
-

@@ -1,5 +1,4 @@
 use mathlib.Core.Path.{sym, ap, ◌∙◌}
-use borrow.Author.Rules.{rules}
 use Rattle.text.proofs.Runs.{same_not}
 use Rattle.plan.specs.Key.{key_on}
 use Rattle.plan.proofs.stocks.is_stock.Goals as goal

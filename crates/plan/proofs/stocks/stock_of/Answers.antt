@@ -1,8 +1,5 @@
-use Prim.Native.Nat.{◌+◌, ◌-◌, ◌≤◌}
-use mathlib.Core.Path.{◌≡◌, sym, ap, ◌∙◌}
+use mathlib.Core.Path.{sym, ap, ◌∙◌}
 use native.Mathlib.Omega.{arith}
-use lib.ListN.{drop}
-use Rattle.text.specs.Code.{stock_of}
 use Rattle.fields.specs.Window.{part}
 use Rattle.text.specs.Text.{same}
 use Rattle.plan.specs.Hand.{codes_in}

@@ -1,12 +1,9 @@
 use Prim.Native.Nat.{◌+◌, ◌-◌, ◌≤◌}
-use mathlib.Core.Path.{◌≡◌, sym, ap, ◌∙◌}
-use native.Mathlib.Omega.{arith}
+use mathlib.Core.Path.{◌≡◌}
 use lib.ListN.{drop}
 use Rattle.text.specs.Code.{stock_of}
 use Rattle.fields.specs.Window.{part}
-use Rattle.text.specs.Text.{same}
 use Rattle.plan.specs.Hand.{codes_in}
-use Rattle.plan.proofs.Listing.{codes-length, codes_at, stock-on, stock-here, stock-none}
 use Rattle.plan.proofs.stocks.stock_of.Given as goal
 
 -- `plan::stocks::stock_of` meets its contract. Invariant: the code is none of the first j, so its number is j and its number among the rest.

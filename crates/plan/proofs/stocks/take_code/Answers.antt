@@ -1,5 +1,4 @@
 use mathlib.Core.Path.{◌∙◌}
-use native.Mathlib.Omega.{arith}
 use borrow.Author.Rules.{rules}
 use Rattle.plan.proofs.Coding.{code_inside, code-room, code_fits, code-refused, code-taken}
 use Rattle.plan.proofs.stocks.take_code.Goals as goal

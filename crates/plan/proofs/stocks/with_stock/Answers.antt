@@ -1,6 +1,5 @@
 use Prim.Native.Nat.{ℕ, ◌*◌, ◌^◌, ◌%◌}
 use mathlib.Core.Path.{◌≡◌, ap, ◌∙◌}
-use borrow.Author.Rules.{rules}
 use native.Mathlib.Nat.{mod-eq_of_lt, one-mul}
 use lib.Bits.{bit_or}
 use lib.Pow.{pow-lt}

@@ -1,6 +1,5 @@
 use mathlib.Core.Path.{sym, ◌∙◌}
 use native.Mathlib.Omega.{arith}
-use borrow.Author.Rules.{rules}
 use Rattle.plan.proofs.Turned.{turn-line-none, turn-line-some}
 use Rattle.plan.proofs.turns.turn_line.Goals as goal
 

@@ -1,12 +1,10 @@
-use Prim.Native.Nat.{suc, ◌-◌, ◌≤◌}
-use mathlib.Core.Path.{◌≡◌, refl, sym}
+use Prim.Native.Nat.{◌≤◌}
+use mathlib.Core.Path.{refl, sym}
 use native.Mathlib.Omega.{arith}
 use borrow.Author.Rules.{rules}
 use lib.ListN.{take}
 use lib.Seq.{length-take-le}
-use Rattle.text.specs.Plan.{each, take_turn}
-use Rattle.fields.specs.Window.{fields_from}
-use Rattle.plan.specs.Hand.{TurnsIn}
+use Rattle.text.specs.Plan.{take_turn}
 use Rattle.plan.proofs.Windows.{field-most}
 use Rattle.plan.proofs.Fields.{no_field, field-taken, field-refused}
 use Rattle.plan.proofs.Turned.{turn-none, turn_more, turn-taken, turns_more}

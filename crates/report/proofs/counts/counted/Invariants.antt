@@ -1,8 +1,6 @@
 use Prim.Native.Nat.{◌-◌, ◌*◌, ◌≤◌}
-use mathlib.Core.Path.{◌≡◌, ◌∙◌, ap}
-use native.Mathlib.Omega.{arith}
+use mathlib.Core.Path.{◌≡◌}
 use Rattle.report.specs.Ready.{counts_in}
-use Rattle.report.proofs.Counting.{counts-none, counts-more}
 use Rattle.report.proofs.counts.counted.Given as goal
 
 abbrev pub invariant-loop-i : goal.invariant-loop-i

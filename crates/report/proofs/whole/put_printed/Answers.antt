@@ -1,12 +1,9 @@
-use mathlib.Core.Path.{◌≡◌, sym}
+use mathlib.Core.Path.{◌≡◌}
 use Rattle.text.specs.Refusal.{number_of}
 use Rattle.text.specs.Plan.{refused, reading}
 use Rattle.text.specs.declared.Fault.{Fault}
-use Rattle.page.specs.Lines.{refusal_line}
-use Rattle.report.specs.Printed.{printed}
 use Rattle.page.proofs.Laying.{put_same}
 use Rattle.report.proofs.Printing.{ReadOff, read_off, turns-long, prefix-long, ready, report-is, refused-off, refusal_is, place-small}
-use borrow.Author.Rules.{rules}
 use Rattle.report.proofs.whole.put_printed.Goals as goal
 use Rattle.report.proofs.whole.put_printed.Goals.{In-Plan, In-Refused}
 

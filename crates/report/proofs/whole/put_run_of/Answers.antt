@@ -1,7 +1,6 @@
 use native.Mathlib.Omega.{arith}
 use Rattle.page.specs.Put.{codes_in}
 use Rattle.report.proofs.Running.{counts-and-idle, report-put}
-use borrow.Author.Rules.{rules}
 use Rattle.report.proofs.whole.put_run_of.Goals as goal
 
 pub overflow_sub-idle : goal.overflow_sub-idle

@@ -1,5 +1,4 @@
 use native.Mathlib.Omega.{arith}
-use borrow.Author.Rules.{rules}
 use Rattle.run.proofs.Agree.{called-stopped, called-done, played-begun}
 use Rattle.verdict.proofs.Judging.{taken}
 use Rattle.run.proofs.call.carried_out.Goals as goal

@@ -1,7 +1,6 @@
 use mathlib.Core.Path.{◌∙◌, ap}
 use Rattle.verdict.specs.Refusals.{number_of}
 use Rattle.run.proofs.Agree.{passes, refused-call}
-use borrow.Author.Rules.{rules}
 use Rattle.run.proofs.call.run_call.Goals as goal
 
 pub carried_out-requires : goal.carried_out-requires

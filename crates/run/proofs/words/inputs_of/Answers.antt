@@ -1,7 +1,6 @@
-use Prim.Native.Nat.{◌-◌, ◌≤◌}
 use mathlib.Core.Path.{◌≡◌}
 use native.Mathlib.Omega.{arith}
-use Rattle.run.proofs.Little.{Read, none_read, one-read, all_read}
+use Rattle.run.proofs.Little.{none_read, one-read, all_read}
 use Rattle.run.proofs.words.inputs_of.Goals as goal
 
 pub loop-i-init : goal.loop-i-init

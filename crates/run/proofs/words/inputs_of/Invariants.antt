@@ -1,7 +1,5 @@
 use Prim.Native.Nat.{◌-◌, ◌≤◌}
-use mathlib.Core.Path.{◌≡◌}
-use native.Mathlib.Omega.{arith}
-use Rattle.run.proofs.Little.{Read, none_read, one-read, all_read}
+use Rattle.run.proofs.Little.{Read}
 use Rattle.run.proofs.words.inputs_of.Given as goal
 
 abbrev pub invariant-loop-i : goal.invariant-loop-i

@@ -1,5 +1,5 @@
 use native.Mathlib.Omega.{arith}
-use Rattle.run.proofs.Little.{Numbered, numbered-none, numbered-room, numbered_more, numbered-all}
+use Rattle.run.proofs.Little.{numbered-none, numbered-room, numbered_more, numbered-all}
 use Rattle.run.proofs.words.word_at.Goals as goal
 
 pub loop-left-init : goal.loop-left-init

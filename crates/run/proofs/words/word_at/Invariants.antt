@@ -1,5 +1,4 @@
-use native.Mathlib.Omega.{arith}
-use Rattle.run.proofs.Little.{Numbered, numbered-none, numbered-room, numbered_more, numbered-all}
+use Rattle.run.proofs.Little.{Numbered}
 use Rattle.run.proofs.words.word_at.Given as goal
 
 abbrev pub invariant-loop-left : goal.invariant-loop-left

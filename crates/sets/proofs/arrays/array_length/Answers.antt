@@ -2,7 +2,6 @@ use Prim.Native.Nat.{◌-◌, ◌^◌, ◌*◌, ◌<◌, ◌≤◌}
 use mathlib.Core.Path.{◌∙◌}
 use native.Mathlib.Nat.{mod-eq_of_lt}
 use native.Mathlib.Omega.{arith}
-use borrow.Author.Rules.{rules}
 use Rattle.sets.proofs.Spans.{length-short, length-long}
 use Rattle.sets.specs.Arrays.{array_length}
 use Rattle.sets.proofs.arrays.array_length.Goals as goal

@@ -1,6 +1,5 @@
 use mathlib.Core.Path.{◌∙◌}
 use native.Mathlib.Omega.{arith}
-use borrow.Author.Rules.{rules}
 use Rattle.sets.proofs.Spans.{own-low, beside-odd, beside-even}
 use Rattle.sets.proofs.arrays.other_array.Goals as goal
 

@@ -1,5 +1,4 @@
 use native.Mathlib.Omega.{arith}
-use borrow.Author.Rules.{rules}
 use Rattle.sets.proofs.Spans.{length-pos, own-capped}
 use Rattle.sets.proofs.arrays.own_array.Goals as goal
 

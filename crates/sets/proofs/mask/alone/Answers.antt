@@ -6,7 +6,6 @@ use native.Mathlib.Omega.{arith}
 use lib.Dec.{leb}
 use lib.Pow.{shl_exact}
 use borrow.Author.Tests.{lt-leb, le-leb}
-use borrow.Author.Rules.{rules}
 use Rattle.sets.proofs.mask.alone.Goals as goal
 
 pub returns-then-i-eq0 : goal.returns-then-i-eq0

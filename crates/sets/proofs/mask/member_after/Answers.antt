@@ -2,7 +2,6 @@ use Prim.Native.Nat.{◌-◌, ◌/◌, ◌^◌}
 use mathlib.Core.Path.{sym}
 use native.Mathlib.Omega.{arith}
 use lib.Count.{trailing_le}
-use borrow.Author.Rules.{rules}
 use Rattle.sets.proofs.Members.{high_digit, shifted-out, none_is, gap-next, past-gap}
 use Rattle.sets.proofs.mask.member_after.Goals as goal
 

@@ -33,7 +33,7 @@ loop-t-preserved c =
     let here = λ (r : Run). Steps c.args.run.now c.args.turns.now r (c.loop-t.t + 1) in (
       omega arith,
       elim c.if-not-is_settled.branch [
-        then-not-is_settled+else-is_unwritten w ↦
+        | then-not-is_settled+else-is_unwritten w ↦
             let told : w.is_unwritten.result ≡ is_unwritten (step_of now i).did = w.is_unwritten.ensures ∙ ap is_unwritten w.step.ensures.1 in
             subst here (sym (w.run-is ∙ w.step.ensures.0))
             (steps-more _ _ now c.loop-t.t (step_of now i) _ c.loop-t.invariant.1 c.loop-t-test.true refl told w.if-is_unwritten.false)

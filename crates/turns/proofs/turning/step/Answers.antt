@@ -54,7 +54,7 @@ pub returns-then-is_uniting : goal.returns-then-is_uniting
 returns-then-is_uniting c =
     let run = c.args.run.now in
     let e = step-register run (shaped run c.fits-run) c.args.i _ c.seat_of-at.ensures c.aim_of-aim.result c.made-left.result
-        (sym c.may_turn.ensures ∙ c.if-not-may_turn.false) (sym c.is_uniting.ensures ∙ c.if-is_uniting.true) c.aim_of-aim.ensures c.made-left.ensures in
+    (sym c.may_turn.ensures ∙ c.if-not-may_turn.false) (sym c.is_uniting.ensures ∙ c.if-is_uniting.true) c.aim_of-aim.ensures c.made-left.ensures in
     (ap (λ (x : Turned). x.run) e, ap (λ (x : Turned). x.did) e)
 
 pub offset_bounds-run-spot : goal.offset_bounds-run-spot
@@ -73,5 +73,5 @@ pub returns : goal.returns
 returns c =
     let run = c.args.run.now in
     let e = step_line run (shaped run c.fits-run) c.args.i _ c.seat_of-at.ensures c.spot_of-spot.result c.made-left-2.result
-        (sym c.may_turn.ensures ∙ c.if-not-may_turn.false) (sym c.is_uniting.ensures ∙ c.if-is_uniting.false) c.spot_of-spot.ensures c.made-left-2.ensures in
+    (sym c.may_turn.ensures ∙ c.if-not-may_turn.false) (sym c.is_uniting.ensures ∙ c.if-is_uniting.false) c.spot_of-spot.ensures c.made-left-2.ensures in
     (ap (λ (x : Turned). x.run) e, ap (λ (x : Turned). x.did) e)

@@ -1,10 +1,7 @@
 use Prim.Native.Nat.{◌-◌}
-use native.Mathlib.Omega.{arith}
-use borrow.Author.Rules.{rules}
 use lib.ListN.{length}
-use Rattle.verdict.proofs.Judging.{bad-stops, good-passes, none-bad}
 use Rattle.verdict.specs.Refusals.{is_bad}
-use Rattle.method.proofs.Firsts.{Passed, passed_none}
+use Rattle.method.proofs.Firsts.{Passed}
 use Rattle.verdict.proofs.tests.first_bad.Given as goal
 
 abbrev pub invariant-loop-t : goal.invariant-loop-t
