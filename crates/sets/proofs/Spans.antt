@@ -62,6 +62,12 @@ pub beside-even : (k i g : ℕ) → g ≡ own_array k i → (g % 2 ≡ 1 → ⊥
 unfolding other_array
 beside-even k i g e o = rw (← e, ne_eqb _ _ o)
 
+pub beside-none : (k i g : ℕ) → g ≡ own_array k i → g ≡ 0 → 0 ≡ other_array k i
+beside-none k i g e z = (omega arith) ∙ beside-even k i g e (omega arith)
+
+-- what the array beside one is, odd or even
+pub ruleset beside = (own-low, beside-odd, beside-even, beside-none)
+
 -- the place of a register on a level that a board may have, from the capped length
 pub placed : (k c j L : ℕ) → L ≡ min (array_length k) 256 → k ≤ 8 → (c - 1) * L + j ≡ cond (leb k 8) (place k c j) 0
 unfolding place

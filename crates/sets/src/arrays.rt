@@ -24,6 +24,7 @@ pub fn own_array(k: u8, i: u8) -> u32
 }
 
 // The array beside it, over which the two are united.
+#[tactic(auto, using(crate::proofs::Spans::beside))]
 pub fn other_array(k: u8, i: u8) -> u32
     ensures { result ≡ other_array k i }
 {
