@@ -1,5 +1,6 @@
 #!/usr/bin/env python3
-"""Respells the repository's own definitions: `mostStations` becomes `most_stations`. Run once at the top, after the port's script.
+"""Respells the repository's own definitions: `mostStations` becomes `most_stations`, and a field or constructor `sets-long` `sets_long`. Run
+at the top, after the port's script.
 
 Goes over .antt and .rt files and the must-fail edits, outside string literals, and over what stands between backquotes in README and docs.
 Names of src/ are in this spelling already, and texts, inputs and outputs are left alone. A name that falls together with another one
@@ -17,11 +18,28 @@ WORD = re.compile(r"(?<![A-Za-z0-9_'.-])[A-Za-z][A-Za-z0-9_'-]*(?![A-Za-z0-9_'.-
 
 
 def snake(name):
-    return re.sub(r"[A-Z]", lambda m: "_" + m.group(0).lower(), name)
+    return re.sub(r"[A-Z]", lambda m: "_" + m.group(0).lower(), name).replace("-", "_")
+
+
+def members(text):
+    """The fields and constructors of the text's records and data types whose names have a dash."""
+    out, depth = set(), None
+    for line in text.split("\n"):
+        if not line.strip():
+            continue
+        indent = len(line) - len(line.lstrip())
+        if depth is not None and indent <= depth:
+            depth = None
+        if re.match(r"\s*(?:pub )?(?:record|data) .* where$", line):
+            depth = indent
+        elif depth is not None:
+            found = re.match(r"\s+(?:pub )?([a-z][A-Za-z0-9_']*(?:-[A-Za-z0-9_']+)+) :", line)
+            out |= {found.group(1)} if found else set()
+    return out
 
 
 def respelled(text):
-    return CAMEL.sub(lambda m: snake(m.group(0)), text)
+    return DASHED.sub(lambda m: snake(m.group(0)), CAMEL.sub(lambda m: snake(m.group(0)), text))
 
 
 def outside(pattern, text, change):
@@ -45,6 +63,8 @@ def fallen(text):
 
 
 files = subprocess.run(["git", "ls-files"], capture_output=True, text=True, check=True).stdout.split()
+dashed = {respelt for name in files if name.endswith(".antt") for respelt in members(pathlib.Path(name).read_text())}
+DASHED = re.compile(r"(?<![A-Za-z0-9_'-])(?:" + "|".join(sorted(map(re.escape, dashed), key=len, reverse=True) or ["(?!)"]) + r")(?![A-Za-z0-9_'-])")
 changed, met = {}, []
 for name in files:
     path = pathlib.Path(name)

@@ -97,15 +97,15 @@ cases =
 -- what comes of a case: a number and bytes; a plan has no number
 record Outcome : Type 0 where
   number : ℕ
-  bytes-are : List ℕ
+  bytes_are : List ℕ
 
 worked : Case → Outcome
-worked (prints plan report) = record { number = 0; bytes-are = printed (bytes plan) }
-worked (calls n inputs turns number answer) = record { number = returned n inputs turns (blank n); bytes-are = answered n inputs turns (blank n) }
+worked (prints plan report) = record { number = 0; bytes_are = printed (bytes plan) }
+worked (calls n inputs turns number answer) = record { number = returned n inputs turns (blank n); bytes_are = answered n inputs turns (blank n) }
 
 given : Case → Outcome
-given (prints plan report) = record { number = 0; bytes-are = bytes report }
-given (calls n inputs turns number answer) = record { number = number; bytes-are = answer }
+given (prints plan report) = record { number = 0; bytes_are = bytes report }
+given (calls n inputs turns number answer) = record { number = number; bytes_are = answer }
 
 cases-right : map worked cases ≡ map given cases
 unfolding cases worked given ones holds member_from member_after array_length own_array other_array place depth_from depth fresh fresh_on row_of line_of level_of register_of with_row with_line with_register gather climb writing pending reach again round_over read_other read_own absorb_own absorb_other next_op absorb goes_on perform named turn after did_of idle_turns first_from bytes_of number_in inputs_in row_bytes answer_bytes first_bad tests first_unwritten verdict_of parted all run same value_on number_to code_of number_of each station take_turn take_code add_stock Plan.code word_of has_line turn_line later_line gang_of first_line later_lines reading digits width_in width line refusal_line run_line stock_line station_line numbered report_lines report printed

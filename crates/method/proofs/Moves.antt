@@ -26,7 +26,7 @@ use Rattle.method.specs.Steps.{gather_at, gather, reading, climb, writing, pendi
 use Rattle.method.specs.Demand.{gathered}
 use Rattle.method.proofs.Brought.{History, Lasting, Full, Stop, Stood, Brought, single, join, brought-size, brought-posted, brought-nothing, comparable, stop-earlier}
 use Rattle.method.proofs.Potential.{left, left-start, left-mono, left-own-found, left-own-written, left-other-found, left-other-written, left-own-empty, left-other-empty}
-use Rattle.method.proofs.Rows.{Written, calm, Seen, own_open, other-open, own-calm, other-calm, rest, due, Pair, Spent, RowOk, unites, gathers, settled}
+use Rattle.method.proofs.Rows.{Written, calm, Seen, own_open, other_open, own_calm, other_calm, rest, due, Pair, Spent, RowOk, unites, gathers, settled}
 use Rattle.method.proofs.Readings.{pending-read, written, written-full, over, full-up, Answer, BoardOk, wrote-read, stops, found-read}
 use Rattle.method.proofs.Gathering.{gathered-member, gathered-same}
 
@@ -130,8 +130,8 @@ module _ (N n : ℕ) (inputs : List ℕ) {m : History} (board : Lasting m) {P : 
         go : (v : Bool) → pending (suc d) own ≡ v → (w : Bool) → pending (suc d) other ≡ w
             → Ok (cond v (Uniting (suc d) own other Own Unchanged)
             (cond w (Uniting (suc d) own other Other Unchanged) (climb N (suc d) (union own.set other.set)))) c
-        go true p w q = unites pair (own-calm x y l f s) p k
-        go false p true q = unites {round = Unchanged} pair (other-calm x y l record { full = f; stop = full-up pair.ours p u } s) q (less k)
+        go true p w q = unites pair (own_calm x y l f s) p k
+        go false p true q = unites {round = Unchanged} pair (other_calm x y l record { full = f; stop = full-up pair.ours p u } s) q (less k)
         go false p false q = finish record { full = f; stop = full-up pair.ours p u } s (less (less k))
 
     -- other has just been read, so it stands so now, and own is full as far as it was read
@@ -144,9 +144,9 @@ module _ (N n : ℕ) (inputs : List ℕ) {m : History} (board : Lasting m) {P : 
         → Stop m t d (sibling (e / 2 ^ d)) (size other.set) → Spent d (rest (calm round)) own.known other.known c
         → Ok (round_over N (suc d) own other round) c
     unfolding round_over
-    over-on First (other-open x) y s k = first_on x y s k
-    over-on Unchanged (other-calm x y l f g) z s k = finish f g k
-    over-on Changed (other-open x) y s k = first_on x y s k
+    over-on First (other_open x) y s k = first_on x y s k
+    over-on Unchanged (other_calm x y l f g) z s k = finish f g k
+    over-on Changed (other_open x) y s k = first_on x y s k
 
     other-on : {c : ℕ} (round : Round) → Saw d own other Other (calm round)
         → Spent d (due Other (calm round)) own.known other.known c → Ok (read_other N (suc d) own other round) c
@@ -160,8 +160,8 @@ module _ (N n : ℕ) (inputs : List ℕ) {m : History} (board : Lasting m) {P : 
     -- own is read: at the moment of a calm round it stood as it is now
     own-ended : {w : Bool} → Saw d own other Own w → Written own → Stop m t d (e / 2 ^ d) (size own.set)
         → Saw d own other Other w
-    own-ended (own_open x) y s = other-open y
-    own-ended (own-calm x y l f g) z s = other-calm x y l record { full = f; stop = stop-earlier board l s } g
+    own-ended (own_open x) y s = other_open y
+    own-ended (own_calm x y l f g) z s = other_calm x y l record { full = f; stop = stop-earlier board l s } g
 
     own_on : {c : ℕ} (round : Round) → Saw d own other Own (calm round)
         → Spent d (due Own (calm round)) own.known other.known c → Ok (read_own N (suc d) own other round) c
@@ -177,11 +177,11 @@ module _ (N n : ℕ) (inputs : List ℕ) {m : History} (board : Lasting m) {P : 
   module _ {d : ℕ} {own other : Reading} (pair : Pair N m P t e d own other) where
     other-written : {w : Bool} → Saw d own other Own w → Written other
     other-written (own_open x) = x
-    other-written (own-calm x y l f g) = y
+    other-written (own_calm x y l f g) = y
 
     own-written : {w : Bool} → Saw d own other Other w → Written own
-    own-written (other-open x) = x
-    own-written (other-calm x y l f g) = x
+    own-written (other_open x) = x
+    own-written (other_calm x y l f g) = x
 
     -- a round in which something is written is not calm
     write-own : {w : Bool} {c : ℕ} → Saw d own other Own w → own.known < size own.set
@@ -190,15 +190,15 @@ module _ (N n : ℕ) (inputs : List ℕ) {m : History} (board : Lasting m) {P : 
     write-own (own_open x) h k =
         let l : own.known < 2 ^ d = omega (arith, brought-size pair.ours.brought) in
         (own_open x, rw add-one (spend (left-own-written (2 ^ d) own.known other.known l) k))
-    write-own (own-calm x y l f g) h k = absurd (omega (arith, x.all))
+    write-own (own_calm x y l f g) h k = absurd (omega (arith, x.all))
 
     write-other : {w : Bool} {c : ℕ} → Saw d own other Other w → other.known < size other.set
         → Spent d (due Other w) own.known other.known c
         → Saw d own (wrote other) Other w × Spent d (due Other w) own.known (other.known + 1) (suc c)
-    write-other (other-open x) h k =
+    write-other (other_open x) h k =
         let l : other.known < 2 ^ d = omega (arith, brought-size pair.theirs.brought) in
-        (other-open x, rw add-one (spend (left-other-written (2 ^ d) own.known other.known l) k))
-    write-other (other-calm x y l f g) h k = absurd (omega (arith, y.all))
+        (other_open x, rw add-one (spend (left-other-written (2 ^ d) own.known other.known l) k))
+    write-other (other_calm x y l f g) h k = absurd (omega (arith, y.all))
 
     -- one in which something is found is not calm any more
     known_some : Written own → 0 < own.known
@@ -269,4 +269,4 @@ module _ (N n : ℕ) (inputs : List ℕ) {m : History} (board : Lasting m) {P : 
               let h = pending-read d other p w in
               let r = found-read pair.theirs holds v a w h (eqb-false v 0 q) in
               other-on record { within = pair.within; ours = pair.ours; theirs = r; self = pair.self } (changed round)
-              (rw (reopened round) (other-open (own-written s))) (find-other round (written pair.theirs w) h k)
+              (rw (reopened round) (other_open (own-written s))) (find-other round (written pair.theirs w) h k)

@@ -40,9 +40,9 @@ calm Changed = false
 -- read, and own was full as far as it was read; once own is read again, it has stood so at that moment too.
 pub data Seen (m : History) (t d b c : ℕ) (own other : Reading) : Side → Bool → Type 0 where
   own_open : Written other → Seen m t d b c own other Own false
-  other-open : Written own → Seen m t d b c own other Other false
-  own-calm : {u : ℕ} → Written own → Written other → u ≤ t → Full m u d b (size own.set) → Stood m u d c other.set → Seen m t d b c own other Own true
-  other-calm : {u : ℕ} → Written own → Written other → u ≤ t → Stood m u d b own.set → Stood m u d c other.set → Seen m t d b c own other Other true
+  other_open : Written own → Seen m t d b c own other Other false
+  own_calm : {u : ℕ} → Written own → Written other → u ≤ t → Full m u d b (size own.set) → Stood m u d c other.set → Seen m t d b c own other Own true
+  other_calm : {u : ℕ} → Written own → Written other → u ≤ t → Stood m u d b own.set → Stood m u d c other.set → Seen m t d b c own other Other true
 
 -- empty registers to be read after this round, if nothing changes; with those of this round
 abbrev pub rest : Bool → ℕ
@@ -90,9 +90,9 @@ module _ {m : History} (board : Lasting m) {P Q : ℕ → Type 0} (more : (e : �
 
   seen-later : {d b c : ℕ} {own other : Reading} {side : Side} {calm : Bool} → Seen m t d b c own other side calm → Seen m v d b c own other side calm
   seen-later (own_open x) = own_open x
-  seen-later (other-open x) = other-open x
-  seen-later (own-calm x y u f s) = own-calm x y (le_trans u l) f s
-  seen-later (other-calm x y u f s) = other-calm x y (le_trans u l) f s
+  seen-later (other_open x) = other_open x
+  seen-later (own_calm x y u f s) = own_calm x y (le_trans u l) f s
+  seen-later (other_calm x y u f s) = other_calm x y (le_trans u l) f s
 
   pub row-later : {N n e c : ℕ} {inputs : List ℕ} {s : State} → RowOk N n inputs m P t e s c → RowOk N n inputs m Q v e s c
   row-later begins = begins

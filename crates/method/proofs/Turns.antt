@@ -32,12 +32,12 @@ pub data Acts (run : Run) (i : ℕ) : Op → ℕ → Run → Type 0 where
   posts : {s : ℕ} → Acts run i (Post s) 0 (with_line run i (written s))
   writes : {k c j v : ℕ} → Acts run i (Write k c j v) 0 (with_register run k c j v)
   reads : {k c j : ℕ} → Acts run i (Read k c j) (register_of run k c j) run
-  reads-line : {j : ℕ} → (line_of run j).written ≡ true → Acts run i (ReadLine j) (line_of run j).stocks run
+  reads_line : {j : ℕ} → (line_of run j).written ≡ true → Acts run i (ReadLine j) (line_of run j).stocks run
 
 -- what a read of a line found
 pub line-read : {run : Run} {i j v : ℕ} {next : Run} → Acts run i (ReadLine j) v next
     → (v ≡ (line_of run j).stocks) × ((line_of run j).written ≡ true) × (next ≡ run)
-line-read (reads-line q) = (refl, q, refl)
+line-read (reads_line q) = (refl, q, refl)
 
 -- what an operation comes to
 pub data Performs (run : Run) (i : ℕ) : Op → Turned → Type 0 where
@@ -53,7 +53,7 @@ performs run i (Read k c j) = acts reads
 performs run i (ReadLine j) = go (line_of run j).written refl
   where
     go : (w : Bool) → (line_of run j).written ≡ w → Performs run i (ReadLine j) (read_line run i (line_of run j) w)
-    go true q = acts (reads-line q)
+    go true q = acts (reads_line q)
     go false q = misses q
 performs run i Rest = idles
 
@@ -79,13 +79,13 @@ module _ {run : Run} {i : ℕ} where
   acts-row posts j = refl
   acts-row writes j = refl
   acts-row reads j = refl
-  acts-row (reads-line q) j = refl
+  acts-row (reads_line q) j = refl
 
   pub acts-shape : {l r n w : ℕ} {op : Op} {v : ℕ} {next : Run} → Shape l r n w run → Acts run i op v next → Shape l r n w next
   acts-shape s posts = line-shape s i _
   acts-shape s (writes {k} {c} {j} {v}) = register-shape s k c j v
   acts-shape s reads = s
-  acts-shape s (reads-line q) = s
+  acts-shape s (reads_line q) = s
 
 -- the row that goes on touches neither registers nor lines
 pub goes-register : (run : Run) (i v k c j : ℕ) → register_of (goes_on run i v) k c j ≡ register_of run k c j
@@ -143,7 +143,7 @@ acts-stays {run} k c j (writes {k = k'} {c = c'} {j = j'} {v = v}) f h = go (reg
     go (kept q) = rw q h
     go (anew q x y) = rw q f
 acts-stays k c j reads f h = h
-acts-stays k c j (reads-line q) f h = h
+acts-stays k c j (reads_line q) f h = h
 
 pub turn-stays : (run : Run) (i k c j : ℕ) → 0 < register_of run k c j → 0 < register_of (turn run i).run k c j
 turn-stays run i k c j h = go (turns run i)
@@ -173,7 +173,7 @@ acts-line {run = run} {i = i} s p h j q (posts {s = x}) = go (ℕ_discrete j i)
     go (no f) = same (line_kept run i j (written x) p q f)
 acts-line s p h j q writes = same refl
 acts-line s p h j q reads = same refl
-acts-line s p h j q (reads-line z) = same refl
+acts-line s p h j q (reads_line z) = same refl
 
 -- a reading is at the registers
 abbrev at_board : Op → Bool

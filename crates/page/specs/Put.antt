@@ -26,5 +26,5 @@ codes_in cells lens stocks = codes_from cells lens 0 (min stocks most_stocks)
 -- the codes are in 64 cells
 pub record Celled (cells lens : List ℕ) (count : ℕ) : Type 0 where
   pub most : count ≤ most_stocks
-  pub cells-long : length cells ≡ most_stocks * most_code
-  pub lens-long : length lens ≡ most_stocks
+  pub cells_long : length cells ≡ most_stocks * most_code
+  pub lens_long : length lens ≡ most_stocks

@@ -35,8 +35,8 @@ module _ (x c : List ℕ) (n : ℕ) (room : length x + most_code ≤ n) (short :
   cell-long : length (padded most_code c) ≡ most_code
   cell-long = padded-long most_code c short
 
-  pub cells-long : length (x ++ padded most_code c) ≡ length x + most_code
-  cells-long =
+  pub cells_long : length (x ++ padded most_code c) ≡ length x + most_code
+  cells_long =
       let l : length (x ++ padded most_code c) ≡ length x + length (padded most_code c) = length-append x (padded most_code c) in
       let r : length (padded most_code c) ≡ most_code = cell-long in
       omega arith
@@ -47,7 +47,7 @@ module _ (x c : List ℕ) (n : ℕ) (room : length x + most_code ≤ n) (short :
   cell-more =
       let m : ℕ = n - length x in
       let z : ℕ = n - length (x ++ padded most_code c) in
-      let rest : m - length c ≡ most_code - length c + z = let l : length (x ++ padded most_code c) ≡ length x + most_code = cells-long in omega arith in
+      let rest : m - length c ≡ most_code - length c + z = let l : length (x ++ padded most_code c) ≡ length x + most_code = cells_long in omega arith in
       let front : take (length x) (padded n x) ≡ x = take-append_seam x (zeros m) in
       let middle : take (length c) c ≡ c = take-length c in
       let behind : drop (length x + length c) (padded n x) ≡ zeros (m - length c) = drop-append-add x (zeros m) (length c) ∙ drop-zeros (length c) m in
@@ -79,7 +79,7 @@ module _ (text starts lens : List ℕ) (count : ℕ) (cells : List ℕ) (h : Cel
       let q : length c ≡ get_or lens k 0 = code-length k (omega arith) in
       let r : get_or lens k 0 ≤ most_code = h.short k (omega arith) in
       let s : length (cells_of (codes_in text starts lens k ++ (c ∷ []))) ≡ length (x ++ padded most_code c) = ap length (cells-snoc (codes_in text starts lens k) c) in
-      let t : length (x ++ padded most_code c) ≡ length x + most_code = cells-long x c (length x + most_code) (omega arith) (omega arith) in
+      let t : length (x ++ padded most_code c) ≡ length x + most_code = cells_long x c (length x + most_code) (omega arith) (omega arith) in
       omega arith
 
   -- the next code into the next cell

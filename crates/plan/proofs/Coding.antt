@@ -17,7 +17,7 @@ use Rattle.fields.proofs.Measured.{no_code, a-code, within}
 use Rattle.plan.proofs.Windows.{part_length, part-front}
 
 -- the field from `at` to `end`, whose code has n bytes
-module _ (text : List ℕ) (at end : ℕ) (starts-at : at ≤ end) (ends : end ≤ length text) (n : ℕ) (size : n ≡ length_of (code (part text at end))) where
+module _ (text : List ℕ) (at end : ℕ) (starts_at : at ≤ end) (ends : end ≤ length text) (n : ℕ) (size : n ≡ length_of (code (part text at end))) where
   code-ends : at + n ≤ end
   code-ends =
       let l : length (part text at end) ≡ end - at = part_length text at end ends in

@@ -30,9 +30,9 @@ module _ (text : List ℕ) (end : ℕ) (inside : end ≤ length text) (e : ℕ) 
   pub gang-other : same (part text 0 e) GANG ≡ false → 0 ≡ gang_of (fields_from text 0 end)
   gang-other h = sym (ap gang_of opened ∙ other_word (part text 0 e) (fields_from text (e + 1) end) h)
 
-  module _ (more : e < end) (f : ℕ) (f-is : f ≡ e + 1 + run no_tab (drop (e + 1) (take end text))) where
+  module _ (more : e < end) (f : ℕ) (f_is : f ≡ e + 1 + run no_tab (drop (e + 1) (take end text))) where
     second : fields_from text (e + 1) end ≡ part text (e + 1) f ∷ fields_from text (f + 1) end
-    second = fields-step text (e + 1) end f (omega arith) inside f-is
+    second = fields-step text (e + 1) end f (omega arith) inside f_is
 
     pub gang-long : f < end → 0 ≡ gang_of (fields_from text 0 end)
     unfolding gang_of

@@ -80,5 +80,5 @@ module _ {text : List ℕ} {end n : ℕ} {sets starts lens keys : List ℕ} {cou
         read_taken k s q =
             record {
               gives = has-taken n (before text sets starts lens count) text at end asked.ends here e e-is more i i-is some (holding (codes_in text starts' lens' k) s) (stocks-gives read k s q);
-              kept = (length-set sets (i - 1) s ∙ asked.sets-long, stocks-kept read k s q);
+              kept = (length-set sets (i - 1) s ∙ asked.sets_long, stocks-kept read k s q);
             }

@@ -21,7 +21,7 @@ module _ {text : List ℕ} {at end n : ℕ} {b : Hand} {stocks turned : ℕ} (pr
     {e : ℕ} (e-is : e ≡ at + run no_tab (drop at (take end text))) {w : Word} (w-is : w ≡ word_of (part text at e)) where
   opened : (v : Word) → w ≡ v → later_fields (held_of text n b stocks turned) (fields_from text at end) ≡ word_line v (held_of text n b stocks turned) (fields_from text (e + 1) end)
   opened v v-is =
-      ap (later_fields (held_of text n b stocks turned)) (fields-step text at end e pre.starts-at pre.ends e-is)
+      ap (later_fields (held_of text n b stocks turned)) (fields-step text at end e pre.starts_at pre.ends e-is)
       ∙ ap (λ (x : Word). word_line x (held_of text n b stocks turned) (fields_from text (e + 1) end)) (sym w-is ∙ v-is)
 
   pub other_way : {b' : Hand} → w ≡ Other → LineRead (Bad OtherWord) text n b' (later_fields (held_of text n b stocks turned) (fields_from text at end))
@@ -38,14 +38,14 @@ module _ {text : List ℕ} {at end n : ℕ} {b : Hand} {stocks turned : ℕ} (pr
         let q = had (Count k) k-is in
         record {
           gives = ap (λ (o : Out Stocked). then o (λ s. taken (held n s (take turned b.turns)))) q.gives ∙ sym (opened Has v);
-          kept = record { stations = pre.plan.stations; sets-long = q.kept.0; table = q.kept.1; turns = pre.plan.turns };
+          kept = record { stations = pre.plan.stations; sets_long = q.kept.0; table = q.kept.1; turns = pre.plan.turns };
         }
 
     pub has-no-way : {b' : Hand} (fault : Fault) → r ≡ Refused fault
         → LineRead (Bad fault) text n b' (later_fields (held_of text n b stocks turned) (fields_from text at end))
-    has-no-way fault f-is =
+    has-no-way fault f_is =
         record {
-          gives = ap (λ (o : Out Stocked). then o (λ s. taken (held n s (take turned b.turns)))) (had (Refused fault) f-is).gives ∙ sym (opened Has v);
+          gives = ap (λ (o : Out Stocked). then o (λ s. taken (held n s (take turned b.turns)))) (had (Refused fault) f_is).gives ∙ sym (opened Has v);
           kept = tt;
         }
 
@@ -59,14 +59,14 @@ module _ {text : List ℕ} {at end n : ℕ} {b : Hand} {stocks turned : ℕ} (pr
         let q = turns-had (Count k) k-is in
         record {
           gives = ap (λ (o : Out (List ℕ)). then o (λ ts. taken (held n (stocked (codes_in text b.starts b.lens stocks) b.sets) ts))) q.gives ∙ sym (opened Turn v);
-          kept = record { stations = pre.plan.stations; sets-long = pre.plan.sets-long; table = pre.plan.table; turns = q.kept };
+          kept = record { stations = pre.plan.stations; sets_long = pre.plan.sets_long; table = pre.plan.table; turns = q.kept };
         }
 
     pub turn-no-way : {b' : Hand} (fault : Fault) → r ≡ Refused fault
         → LineRead (Bad fault) text n b' (later_fields (held_of text n b stocks turned) (fields_from text at end))
-    turn-no-way fault f-is =
+    turn-no-way fault f_is =
         record {
-          gives = ap (λ (o : Out (List ℕ)). then o (λ ts. taken (held n (stocked (codes_in text b.starts b.lens stocks) b.sets) ts))) (turns-had (Refused fault) f-is).gives ∙ sym (opened Turn v);
+          gives = ap (λ (o : Out (List ℕ)). then o (λ ts. taken (held n (stocked (codes_in text b.starts b.lens stocks) b.sets) ts))) (turns-had (Refused fault) f_is).gives ∙ sym (opened Turn v);
           kept = tt;
         }
 

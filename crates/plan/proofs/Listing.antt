@@ -92,19 +92,19 @@ module _ (codes : List (List ℕ)) (set-of : ℕ) (c : List ℕ) (count k : ℕ)
       ∙ sym (asked ∙ rw (le-ltb k (length codes) (omega arith), lt-ltb k most_stocks (omega arith)))
 
 module _ (text starts lens keys : List ℕ) (count at end key : ℕ) (listed : Listed text at end starts lens keys count)
-    (room : count < most_stocks) (short : end ≤ at + most_code) (key-is : key ≡ key_on 0 (part text at end)) where
+    (room : count < most_stocks) (short : end ≤ at + most_code) (key_is : key ≡ key_on 0 (part text at end)) where
   start-here : get_or (set starts count at) count 0 ≡ at
-  start-here = get_or-set_same starts count at 0 (omega (arith, listed.table.starts-long))
+  start-here = get_or-set_same starts count at 0 (omega (arith, listed.table.starts_long))
 
   len-here : get_or (set lens count (end - at)) count 0 ≡ end - at
-  len-here = get_or-set_same lens count (end - at) 0 (omega (arith, listed.table.lens-long))
+  len-here = get_or-set_same lens count (end - at) 0 (omega (arith, listed.table.lens_long))
 
   key_here : get_or (set keys count key) count 0 ≡ key
-  key_here = get_or-set_same keys count key 0 (omega (arith, listed.table.keys-long))
+  key_here = get_or-set_same keys count key 0 (omega (arith, listed.table.keys_long))
 
   code_here : code_at text (set starts count at) (set lens count (end - at)) count ≡ part text at end
   code_here =
-      let e : at + (end - at) ≡ end = omega (arith, listed.starts-at) in
+      let e : at + (end - at) ≡ end = omega (arith, listed.starts_at) in
       rw (start-here, len-here, e)
 
   module _ (j : ℕ) (other : j ≡ count → ⊥) where
@@ -131,9 +131,9 @@ module _ (text starts lens keys : List ℕ) (count at end key : ℕ) (listed : L
   new-entry : Entry text (set starts count at) (set lens count (end - at)) (set keys count key) count
   new-entry =
       record {
-        inside = omega (arith, start-here, len-here, listed.starts-at, listed.ends);
+        inside = omega (arith, start-here, len-here, listed.starts_at, listed.ends);
         short = omega (arith, len-here);
-        keyed = key_here ∙ key-is ∙ ap (key_on 0) (sym code_here);
+        keyed = key_here ∙ key_is ∙ ap (key_on 0) (sym code_here);
       }
 
   old-entry : (j : ℕ) → j < count → Entry text (set starts count at) (set lens count (end - at)) (set keys count key) j
@@ -150,9 +150,9 @@ module _ (text starts lens keys : List ℕ) (count at end key : ℕ) (listed : L
   table_more =
       record {
         most = omega arith;
-        starts-long = length-set starts count at ∙ listed.table.starts-long;
-        lens-long = length-set lens count (end - at) ∙ listed.table.lens-long;
-        keys-long = length-set keys count key ∙ listed.table.keys-long;
+        starts_long = length-set starts count at ∙ listed.table.starts_long;
+        lens_long = length-set lens count (end - at) ∙ listed.table.lens_long;
+        keys_long = length-set keys count key ∙ listed.table.keys_long;
         entry = λ j h. ⊎_elim (λ (e : j ≡ count). subst (Entry text (set starts count at) (set lens count (end - at)) (set keys count key)) (sym e) new-entry) (λ (m : j < count). old-entry j m) (eq-or-lt_of_le (below j h));
         rest = λ j h. len-there j (λ e. omega arith) ∙ listed.table.rest j (omega arith);
       }
@@ -185,11 +185,11 @@ module _ (text starts lens keys : List ℕ) (count at end key set-of k : ℕ) (l
   pub read-new : (s : ℕ) → count ≤ k → count < most_stocks → end ≤ at + most_code → key ≡ key_on 0 (part text at end) → s ≡ with_stock set-of count
       → CodedRead (Stocks (count + 1) s) text (set starts count at) (set lens count (end - at)) (set keys count key)
       (add_stock (holding (codes_in text starts lens count) set-of) (part text at end))
-  read-new s h room short key-is e =
+  read-new s h room short key_is e =
       record {
         gives =
             ap (λ (m : ℕ). taken (holding (codes_in text (set starts count at) (set lens count (end - at)) (count + 1)) m)) e
-            ∙ ap (λ (cs : List (List ℕ)). taken (holding cs (with_stock set-of count))) (codes-more text starts lens keys count at end key listed room short key-is)
+            ∙ ap (λ (cs : List (List ℕ)). taken (holding cs (with_stock set-of count))) (codes-more text starts lens keys count at end key listed room short key_is)
             ∙ add-new (codes_in text starts lens count) set-of (part text at end) count k (codes-length text starts lens count) k-is h room;
-        kept = table_more text starts lens keys count at end key listed room short key-is;
+        kept = table_more text starts lens keys count at end key listed room short key_is;
       }

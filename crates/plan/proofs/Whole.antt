@@ -26,9 +26,9 @@ clear text =
       table =
           record {
             most = zero-le;
-            starts-long = length-replicate {A = ℕ} most_stocks 0;
-            lens-long = length-replicate {A = ℕ} most_stocks 0;
-            keys-long = length-replicate {A = ℕ} most_stocks 0;
+            starts_long = length-replicate {A = ℕ} most_stocks 0;
+            lens_long = length-replicate {A = ℕ} most_stocks 0;
+            keys_long = length-replicate {A = ℕ} most_stocks 0;
             entry = λ j h. absurd (omega arith);
             rest = λ j h. zeros-at most_stocks j;
           };
@@ -72,20 +72,20 @@ module _ (text : List ℕ) (n : ℕ) (b : Hand) (stocks turned : ℕ) (h : PlanI
   lens-front zero l = refl
   lens-front (suc k) l =
       let most : stocks ≤ most_stocks = h.table.most in
-      let long : length b.lens ≡ most_stocks = h.table.lens-long in
+      let long : length b.lens ≡ most_stocks = h.table.lens_long in
       let c : length (code_at text b.starts b.lens k) ≡ get_or b.lens k 0 = code-length text b.starts b.lens stocks (zeros (most_stocks * most_code)) cells-asked k l in
       take-suc b.lens k 0 (omega arith)
       ∙ ap (λ (m : List ℕ). m ++ (get_or b.lens k 0 ∷ [])) (lens-front k (omega arith))
       ∙ ap (λ (m : ℕ). map length (codes_in text b.starts b.lens k) ++ (m ∷ [])) (sym c)
       ∙ sym (map_snoc (codes_in text b.starts b.lens k) (code_at text b.starts b.lens k))
 
-  pub lens-are : b.lens ≡ padded most_stocks (map length (codes_in text b.starts b.lens stocks))
-  lens-are =
-      padded-front most_stocks stocks b.lens h.table.lens-long h.table.most h.table.rest
+  pub lens_are : b.lens ≡ padded most_stocks (map length (codes_in text b.starts b.lens stocks))
+  lens_are =
+      padded-front most_stocks stocks b.lens h.table.lens_long h.table.most h.table.rest
       ∙ ap (padded most_stocks) (lens-front stocks (omega arith))
 
-  pub turns-are : b.turns ≡ padded most_turns (take turned b.turns)
-  turns-are = padded-front most_turns turned b.turns h.turns.long h.turns.most h.turns.rest
+  pub turns_are : b.turns ≡ padded most_turns (take turned b.turns)
+  turns_are = padded-front most_turns turned b.turns h.turns.long h.turns.most h.turns.rest
 
   told-counts : counts n stocks turned ≡ told_of (plan (held_of text n b stocks turned))
   told-counts =
@@ -108,8 +108,8 @@ module _ (text : List ℕ) (n : ℕ) (b : Hand) (stocks turned : ℕ) (h : PlanI
       (
         c ∙ ap (λ (o : Reading). codes_after o codes') e,
         (
-          lens-are ∙ ap (λ (o : Reading). lens_after o lens') e,
-          turns-are ∙ ap (λ (o : Reading). turns_after o turns') e,
+          lens_are ∙ ap (λ (o : Reading). lens_after o lens') e,
+          turns_are ∙ ap (λ (o : Reading). turns_after o turns') e,
         ),
       ),
     ),

@@ -54,30 +54,30 @@ pub record Entry (text starts lens keys : List ℕ) (j : ℕ) : Type 0 where
 
 pub record Table (text starts lens keys : List ℕ) (count : ℕ) : Type 0 where
   pub most : count ≤ most_stocks
-  pub starts-long : length starts ≡ most_stocks
-  pub lens-long : length lens ≡ most_stocks
-  pub keys-long : length keys ≡ most_stocks
+  pub starts_long : length starts ≡ most_stocks
+  pub lens_long : length lens ≡ most_stocks
+  pub keys_long : length keys ≡ most_stocks
   pub entry : (j : ℕ) → j < count → Entry text starts lens keys j
   pub rest : (j : ℕ) → count ≤ j → get_or lens j 0 ≡ 0
 
 -- a code in hand, with its key, beside place j of the table
 pub record Beside (text : List ℕ) (at end key : ℕ) (starts lens keys : List ℕ) (j : ℕ) : Type 0 where
-  pub starts-at : at ≤ end
+  pub starts_at : at ≤ end
   pub ends : end ≤ length text
-  pub key-is : key ≡ key_on 0 (part text at end)
+  pub key_is : key ≡ key_on 0 (part text at end)
   pub below : j < most_stocks
   pub entry : Entry text starts lens keys j
 
 -- a code in hand, with its key, and the table
 pub record Known (text : List ℕ) (at end key : ℕ) (starts lens keys : List ℕ) (count : ℕ) : Type 0 where
-  pub starts-at : at ≤ end
+  pub starts_at : at ≤ end
   pub ends : end ≤ length text
-  pub key-is : key ≡ key_on 0 (part text at end)
+  pub key_is : key ≡ key_on 0 (part text at end)
   pub table : Table text starts lens keys count
 
 -- a part of the text, and the table
 pub record Listed (text : List ℕ) (at end : ℕ) (starts lens keys : List ℕ) (count : ℕ) : Type 0 where
-  pub starts-at : at ≤ end
+  pub starts_at : at ≤ end
   pub ends : end ≤ length text
   pub table : Table text starts lens keys count
 
@@ -103,7 +103,7 @@ pub record CodesAt (text : List ℕ) (end : ℕ) (starts lens keys : List ℕ) (
 pub record HasAt (text : List ℕ) (end n : ℕ) (sets starts lens keys : List ℕ) (count : ℕ) : Type 0 where
   pub ends : end ≤ length text
   pub stations : n ≤ most_stations
-  pub sets-long : length sets ≡ most_stations
+  pub sets_long : length sets ≡ most_stations
   pub table : Table text starts lens keys count
 
 abbrev pub stocked_out : Counted → List ℕ → List ℕ → List ℕ → List ℕ → Out Stocked
@@ -135,13 +135,13 @@ held_of text n b stocks turns = held n (stocked (codes_in text b.starts b.lens s
 
 pub record PlanIn (text : List ℕ) (n : ℕ) (b : Hand) (stocks turned : ℕ) : Type 0 where
   pub stations : n ≤ most_stations
-  pub sets-long : length b.sets ≡ most_stations
+  pub sets_long : length b.sets ≡ most_stations
   pub table : Table text b.starts b.lens b.keys stocks
   pub turns : TurnsIn turned b.turns
 
 -- a line, and the plan so far
 pub record LineAt (text : List ℕ) (at end n : ℕ) (b : Hand) (stocks turned : ℕ) : Type 0 where
-  pub starts-at : at ≤ end
+  pub starts_at : at ≤ end
   pub ends : end ≤ length text
   pub plan : PlanIn text n b stocks turned
 

@@ -56,10 +56,10 @@ pub record ReadOff (text : List ℕ) (n stocks turned : ℕ) (sets cells lens tu
   pub stations : of.stations ≡ n
   pub many : length of.stocks.codes ≡ stocks
   pub made : length of.turns ≡ turned
-  pub sets-are : sets ≡ of.stocks.sets
+  pub sets_are : sets ≡ of.stocks.sets
   pub cells_are : cells ≡ padded (most_stocks * most_code) (cells_of of.stocks.codes)
-  pub lens-are : lens ≡ padded most_stocks (map length of.stocks.codes)
-  pub turns-are : turns ≡ padded most_turns of.turns
+  pub lens_are : lens ≡ padded most_stocks (map length of.stocks.codes)
+  pub turns_are : turns ≡ padded most_turns of.turns
 
 pub read_off : (text : List ℕ) (r : Answer) (n stocks turned : ℕ) (sets cells lens turns a b c d : List ℕ) → r ≡ Plan n stocks turned → told r ≡ told_of (reading text)
     → sets ≡ sets_after (reading text) a → cells ≡ codes_after (reading text) b → lens ≡ lens_after (reading text) c → turns ≡ turns_after (reading text) d
@@ -72,10 +72,10 @@ read_off text r n stocks turned sets cells lens turns a b c d e f g h i j =
       stations = sym p.stations;
       many = sym p.stocks;
       made = sym p.turns;
-      sets-are = g ∙ ap (λ (o : Reading). sets_after o a) p.is;
+      sets_are = g ∙ ap (λ (o : Reading). sets_after o a) p.is;
       cells_are = h ∙ ap (λ (o : Reading). codes_after o b) p.is;
-      lens-are = i ∙ ap (λ (o : Reading). lens_after o c) p.is;
-      turns-are = j ∙ ap (λ (o : Reading). turns_after o d) p.is;
+      lens_are = i ∙ ap (λ (o : Reading). lens_after o c) p.is;
+      turns_are = j ∙ ap (λ (o : Reading). turns_after o d) p.is;
     }
 
 -- the refusal that was read
@@ -91,7 +91,7 @@ module _ {text : List ℕ} {n stocks turned : ℕ} {sets cells lens turns : List
 
   pub turns-long : turned ≤ length turns
   turns-long =
-      let e : length turns ≡ most_turns = ap length r.turns-are ∙ padded-long most_turns r.of.turns sound.turns.most in
+      let e : length turns ≡ most_turns = ap length r.turns_are ∙ padded-long most_turns r.of.turns sound.turns.most in
       let f = sound.turns.most in
       let m = r.made in
       omega arith
@@ -101,7 +101,7 @@ module _ {text : List ℕ} {n stocks turned : ℕ} {sets cells lens turns : List
 
   turns-back : take turned turns ≡ r.of.turns
   unfolding padded
-  turns-back = ap (take turned) r.turns-are ∙ take_at r.of.turns (zeros (most_turns - length r.of.turns)) turned r.made
+  turns-back = ap (take turned) r.turns_are ∙ take_at r.of.turns (zeros (most_turns - length r.of.turns)) turned r.made
 
   codes-back : codes_in cells lens stocks ≡ r.of.stocks.codes
   unfolding padded
@@ -110,20 +110,20 @@ module _ {text : List ℕ} {n stocks turned : ℕ} {sets cells lens turns : List
       let k = r.many in
       let all : min stocks most_stocks ≡ length r.of.stocks.codes = omega arith in
       ap (codes_from cells lens 0) all
-      ∙ cells-back cells lens 0 r.of.stocks.codes (zeros (most_stocks * most_code - length (cells_of r.of.stocks.codes))) (zeros (most_stocks - length (map length r.of.stocks.codes))) (λ j l. (sound.stocks.codes.good j l).most) r.cells_are r.lens-are
+      ∙ cells-back cells lens 0 r.of.stocks.codes (zeros (most_stocks * most_code - length (cells_of r.of.stocks.codes))) (zeros (most_stocks - length (map length r.of.stocks.codes))) (λ j l. (sound.stocks.codes.good j l).most) r.cells_are r.lens_are
 
   pub ready : Ready n sets (take turned turns)
   ready =
       record {
         high = rw (← r.stations) sound.most;
-        sets-long = ap length r.sets-are ∙ sound.stocks.sets;
+        sets_long = ap length r.sets_are ∙ sound.stocks.sets;
         few = rw turns-back sound.turns.most;
         named = rw (turns-back, ← r.stations) sound.turns.named;
       }
 
   pub report-is : report n sets (codes_in cells lens stocks) (take turned turns) ≡ printed text
   unfolding printed
-  report-is = rw (codes-back, turns-back, r.sets-are, ← r.stations, r.read)
+  report-is = rw (codes-back, turns-back, r.sets_are, ← r.stations, r.read)
 
 -- ---- what stands in the page is handed out
 

@@ -13,6 +13,6 @@ counts_in rows (suc n) = counts_in rows n + (get_or rows n (not_begun 0)).count
 -- a plan that was read
 pub record Ready (n : ℕ) (inputs turns : List ℕ) : Type 0 where
   pub high : n ≤ most_stations
-  pub sets-long : length inputs ≡ most_stations
+  pub sets_long : length inputs ≡ most_stations
   pub few : length turns ≤ most_turns
   pub named : (t : ℕ) → t < length turns → Station n (get_or turns t 0)

@@ -10,7 +10,7 @@ use Rattle.text.specs.Limits.{most_bytes}
 use Rattle.text.specs.Text.{tab, space, onto, joined, parted, lines_of, fields_of, all, fine, same}
 use Rattle.text.specs.Code.{code_of}
 use Rattle.text.specs.Plan.{Out, taken, no, then, each, station, code_in, code, Holding, holding, add_stock, take_code, Stocked, stocked, has_line, Held, word_of, held, later_fields, later_line, gang_in, gang_of, first_line, Reading, at_line, later_lines, all_lines, reading, HAS}
-use Rattle.text.specs.Alike.{spaces, Each, none, more, Respaced, Alike, same_line, has-lines}
+use Rattle.text.specs.Alike.{spaces, Each, none, more, Respaced, Alike, same_line, has_lines}
 use Rattle.text.specs.declared.Fault.TheVariants.{StrayByte}
 use Rattle.text.proofs.Codes.{code-space}
 use Rattle.text.proofs.Lengths.{not-too-long}
@@ -38,10 +38,10 @@ fine-spaces (b ∷ c) n = ap (λ (t : Bool). fine b && t) (fine-spaces c n)
 
 module _ {f g : List ℕ} (r : Respaced f g) where
   same_code : code_of f ≡ code_of g
-  same_code = ap code_of r.f-is ∙ code-spaces r.code r.left ∙ sym (ap code_of r.g-is ∙ code-spaces r.code r.right)
+  same_code = ap code_of r.f_is ∙ code-spaces r.code r.left ∙ sym (ap code_of r.g_is ∙ code-spaces r.code r.right)
 
   same-fine : all fine f ≡ all fine g
-  same-fine = ap (all fine) r.f-is ∙ fine-spaces r.code r.left ∙ sym (ap (all fine) r.g-is ∙ fine-spaces r.code r.right)
+  same-fine = ap (all fine) r.f_is ∙ fine-spaces r.code r.left ∙ sym (ap (all fine) r.g_is ∙ fine-spaces r.code r.right)
 
   same-field : code f ≡ code g
   unfolding code
@@ -124,11 +124,11 @@ module _ (l m : List ℕ) (i : List ℕ) (cs ds : List (List ℕ)) (l-is : field
 
 same-later : (h : Held) {l m : List ℕ} → Alike l m → later_line h l ≡ later_line h m
 same-later h (same_line e) = ap (later_line h) e
-same-later h {l} {m} (has-lines i cs ds l-is m-is rs) = has-later l m i cs ds l-is m-is rs h
+same-later h {l} {m} (has_lines i cs ds l-is m-is rs) = has-later l m i cs ds l-is m-is rs h
 
 same_first : {l m : List ℕ} → Alike l m → first_line l ≡ first_line m
 same_first (same_line e) = ap first_line e
-same_first {l} {m} (has-lines i cs ds l-is m-is rs) = has_first l m i cs ds l-is m-is rs
+same_first {l} {m} (has_lines i cs ds l-is m-is rs) = has_first l m i cs ds l-is m-is rs
 
 -- ---- the plan
 

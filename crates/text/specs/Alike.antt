@@ -16,10 +16,10 @@ pub record Respaced (f g : List ℕ) : Type 0 where
   pub code : List ℕ
   pub left : ℕ
   pub right : ℕ
-  pub f-is : f ≡ code ++ spaces left
-  pub g-is : g ≡ code ++ spaces right
+  pub f_is : f ≡ code ++ spaces left
+  pub g_is : g ≡ code ++ spaces right
 
 -- two lines: the same, or both `HAS` with the same station, and their codes differ only in spaces at the end
 pub data Alike (l m : List ℕ) : Type 0 where
   same_line : l ≡ m → Alike l m
-  has-lines : (station : List ℕ) (cs ds : List (List ℕ)) → fields_of l ≡ HAS ∷ station ∷ cs → fields_of m ≡ HAS ∷ station ∷ ds → Each Respaced cs ds → Alike l m
+  has_lines : (station : List ℕ) (cs ds : List (List ℕ)) → fields_of l ≡ HAS ∷ station ∷ cs → fields_of m ≡ HAS ∷ station ∷ ds → Each Respaced cs ds → Alike l m

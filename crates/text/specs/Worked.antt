@@ -8,7 +8,7 @@ use Rattle.text.specs.Code.{code_of}
 use Rattle.text.specs.Refusal.{number_of}
 use Rattle.text.specs.Plan.{Reading, plan, refused, each, station, take_turn, take_code, add_stock, word_of, has_line, turn_line, later_line, gang_of, first_line, later_lines, reading}
 use Rattle.text.specs.Plan as Plan
-use Rattle.text.specs.Alike.{Each, none, more, Alike, same_line, has-lines}
+use Rattle.text.specs.Alike.{Each, none, more, Alike, same_line, has_lines}
 
 abbrev bytes : String → List ℕ
 bytes ends = []
@@ -72,8 +72,8 @@ padded-alike : Each Alike (lines_of (bytes "GANG\t1\nHAS\t1\tKR90               
 unfolding parted
 padded-alike =
     more (same_line refl)
-    (more (has-lines (bytes "1") _ _ refl refl
-    (more (record { code = bytes "KR90"; left = 16; right = 0; f-is = refl; g-is = refl })
-    (more (record { code = bytes "SB70"; left = 0; right = 2; f-is = refl; g-is = refl })
+    (more (has_lines (bytes "1") _ _ refl refl
+    (more (record { code = bytes "KR90"; left = 16; right = 0; f_is = refl; g_is = refl })
+    (more (record { code = bytes "SB70"; left = 0; right = 2; f_is = refl; g_is = refl })
     none)))
     none)

@@ -17,7 +17,7 @@ pub offset_bounds-lens-k : goal.offset_bounds-lens-k
 offset_bounds-lens-k c = omega (arith, c.requires.1.most)
 
 pub bounds-lens-k : goal.bounds-lens-k
-bounds-lens-k c = omega (arith, c.requires.1.most, c.requires.1.lens-long)
+bounds-lens-k c = omega (arith, c.requires.1.most, c.requires.1.lens_long)
 
 pub overflow_add-end : goal.overflow_add-end
 overflow_add-end c = omega (arith, c.requires.1.most, c.least.ensures)

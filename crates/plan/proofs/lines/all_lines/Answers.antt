@@ -45,7 +45,7 @@ later_lines-requires c =
     let f = c.line_end-end in
     record {
       stations = omega (arith, n.ensures, gang-most (fields_from c.args.text.now 0 f.result));
-      sets-long = ap length c.requires.sets ∙ length-replicate {A = ℕ} 16 0;
+      sets_long = ap length c.requires.sets ∙ length-replicate {A = ℕ} 16 0;
       table = c.requires.table;
       turns = c.requires.turns;
     }

@@ -9,7 +9,7 @@ use Rattle.plan.proofs.lines.later_line.Goals.{After-field_end-e}
 
 -- where the first field ends
 ended : (c : After-field_end-e) → c.field_end-e.result ≤ c.args.end
-ended c = field-most c.args.text.now c.args.at c.args.end c.field_end-e.result c.field_end-e.ensures c.requires.starts-at c.requires.ends
+ended c = field-most c.args.text.now c.args.at c.args.end c.field_end-e.result c.field_end-e.ensures c.requires.starts_at c.requires.ends
 
 -- `plan::lines::later_line` meets its contract: by its word the line is a HAS line, a TURN line or refused.
 -- Assumes nothing.

@@ -31,7 +31,7 @@ returns-then-strays c =
 pub later_line-r-requires : goal.later_line-r-requires
 later_line-r-requires c =
     record {
-      starts-at = omega (arith, c.line_end-end.ensures);
+      starts_at = omega (arith, c.line_end-end.ensures);
       ends = ended (goal.at.later_line-r-requires c).After-line_end-end;
       plan = c.loop-i.invariant.0;
     }

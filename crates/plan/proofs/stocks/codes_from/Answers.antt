@@ -23,7 +23,7 @@ slice_bounds-field_end-end c = sym (length-take-le c.args.end c.args.text.now c.
 pub take_code-r-requires : goal.take_code-r-requires
 take_code-r-requires c =
     record {
-      starts-at = omega (arith, c.field_end-e.ensures);
+      starts_at = omega (arith, c.field_end-e.ensures);
       ends = omega (arith, ended (goal.at.take_code-r-requires c).After-field_end-e, c.requires.ends);
       table = c.loop-i.invariant.0;
     }

@@ -13,9 +13,9 @@ pub is_stock-requires : goal.is_stock-requires
 is_stock-requires c =
     let j = c.loop-j.j in
     record {
-      starts-at = c.requires.starts-at;
+      starts_at = c.requires.starts_at;
       ends = c.requires.ends;
-      key-is = c.requires.key-is;
+      key_is = c.requires.key_is;
       below = omega (arith, c.requires.table.most, c.loop-j-test.true);
       entry = c.requires.table.entry j c.loop-j-test.true;
     }

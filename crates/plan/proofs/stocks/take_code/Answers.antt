@@ -12,7 +12,7 @@ overflow_add-at c = search (code-room, rules)
 pub add_stock-requires : goal.add_stock-requires
 add_stock-requires c =
     record {
-      listed = record { starts-at = search rules; ends = search (code_inside, rules); table = search rules };
+      listed = record { starts_at = search rules; ends = search (code_inside, rules); table = search rules };
       end_bound = search (code_fits, rules);
     }
 
