@@ -5,9 +5,9 @@ use Rattle.std.proofs.lemmas.List.{take-append-le}
 use borrow.Rule.Slice.PartMut.{put_mid, post_of}
 
 -- what lies behind the first `at` bytes is written anew, and `count` of it are bytes that came
-pub filled_more : (at room count : ℕ) (text rest : List ℕ) → at ≤ length text → count ≤ length rest
+pub front_joined : (at room count : ℕ) (text rest : List ℕ) → at ≤ length text → count ≤ length rest
     → take (at + count) (put_mid at room text rest) ≡ take at text ++ take count rest
-filled_more at room count text rest within fits =
+front_joined at room count text rest within fits =
     let front = take at text in
     let back = rest ++ post_of at room text in
     let long : length front ≡ at = length-take-le at text within in

@@ -1,2 +1,3 @@
--- Laws for the proofs of this crate.
+-- Laws for the proofs of this crate, and of those that call it.
 mod Filling
+pub mod Taking

@@ -2,7 +2,7 @@
 use Rattle.std.proofs.Common.{◌-◌, ◌≤◌, length, rules, arith, sym, subst}
 use Rattle.std.specs.Io.KnownBytes.{Consumes}
 use Rattle.std.proofs.KnownBytes.{Consumes-trans}
-use Rattle.input.proofs.Filling.{filled_more}
+use Rattle.input.proofs.Filling.{front_joined}
 use Rattle.input.proofs.read_all.Goals as goal
 
 pub loop-preserved : goal.loop-preserved
@@ -13,5 +13,5 @@ loop-preserved g c =
     record {
       long = search rules;
       within = search rules;
-      gave = subst (Consumes _ _) (sym (filled_more c.loop.at (length c.loop.text - c.loop.at) c.in-More.count c.loop.text c.read_some.new.rest before.within fits)) (Consumes-trans _ _ _ _ _ before.gave read.bytes);
+      gave = subst (Consumes _ _) (sym (front_joined c.loop.at (length c.loop.text - c.loop.at) c.in-More.count c.loop.text c.read_some.new.rest before.within fits)) (Consumes-trans _ _ _ _ _ before.gave read.bytes);
     }
