@@ -1,8 +1,8 @@
 /* The gang model for a program in C: a run from bytes, and a plan text read into arrays.
  *
- * `rt staticlib gang` proves the library and writes target/staticlib/libgang.a. Build with
+ * `rt lib` in crates/gang proves the library and writes crates/gang/out/libgang.a. Build with
  *
- *     cc -Iinclude program.c target/staticlib/libgang.a
+ *     cc -Iinclude program.c crates/gang/out/libgang.a
  *
  * docs/MODEL.md has the rules, in sections 7 (the run call) and 8 (the plan text).
  */
