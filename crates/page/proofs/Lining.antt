@@ -44,12 +44,12 @@ head-put : (page c d : List ℕ) (at r s i x y : ℕ) → Put page at ((ST ++ ta
     → Put page at (ST ++ tab ∷ (decimal i ++ tab ∷ (decimal x ++ tab ∷ (decimal y ++ tab ∷ [])))) d s
 head-put page c d at r s i x y f g = put_same (simp append_assoc) (put_then f g)
 
-pub station-put : (page c d e last : List ℕ) (at r s t u i : ℕ) (row : Row) (told : Shown) → told ≡ shown_of row.state
+pub station-put : {page c d e last : List ℕ} {at r s t u : ℕ} (i : ℕ) (row : Row) (told : Shown) → told ≡ shown_of row.state
     → Put page at ((ST ++ tab ∷ []) ++ decimal i ++ tab ∷ decimal told.number ++ tab ∷ []) c r → Put c r (decimal row.count ++ tab ∷ []) d s
     → Put d s (set_shown (eqb told.number 2) 4 told.stations ++ tab ∷ []) e t → Put e t (set_shown (eqb told.number 2) 16 told.stocks ++ LF ∷ []) last u
     → Put page at (station_line i row) last u
 unfolding station_line line
-station-put page c d e last at r s t u i row told x f j k l =
+station-put {page} {c} {d} {e} {last} {at} {r} {s} {t} {u} i row told x f j k l =
     let two : eqb told.number 2 ≡ is_settled row.state = ap (λ (m : Shown). eqb m.number 2) x ∙ settled-two row.state in
     let k' : Put d s (set_shown (is_settled row.state) 4 told.stations ++ tab ∷ []) e t = rw (← two) k in
     let l' : Put e t (set_shown (is_settled row.state) 16 told.stocks ++ LF ∷ []) last u = rw (← two) l in

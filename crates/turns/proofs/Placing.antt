@@ -1,6 +1,6 @@
 -- Where on the record a turn reads and writes, by the ways out.
 use Prim.Native.Nat.{ℕ, ◌-◌, ◌≤◌, ◌<◌}
-use mathlib.Core.Path.{◌≡◌, refl, ap, ◌∙◌}
+use mathlib.Core.Path.{◌≡◌, refl, sym, ap, subst, ◌∙◌}
 use mathlib.Core.Bool.{Bool, true, false, cond, ◌&&◌, and-false}
 use native.Mathlib.Omega.{arith}
 use borrow.Author.Tests.{ltb-true, lt-ltb, le-ltb, le-leb}
@@ -115,6 +115,12 @@ placed (Read k c j) = placed-register (Read k c j) k c j
 placed (ReadLine j) = placed-nowhere (ReadLine j)
 placed Rest = placed-nowhere Rest
 
+pub level_within : (a : Aim) (op : Op) → a ≡ aim_of op → a.level < 4
+level_within a op e = subst (λ (x : Aim). x.level < 4) (sym e) (placed op).level
+
+pub register_within : (a : Aim) (op : Op) → a ≡ aim_of op → a.register < 16
+register_within a op e = subst (λ (x : Aim). x.register < 16) (sym e) (placed op).register
+
 line-below : (j : ℕ) → (line_spot j).line < 16
 unfolding line_spot
 line-below j = at (ltb (j - 1) 16) refl
@@ -129,3 +135,9 @@ spot-below i (NotBegun stocks) = line-below i
 spot-below i (Uniting k own other side round) = omega arith
 spot-below i (Gathering S j got) = line-below j
 spot-below i (Settled S got) = omega arith
+
+pub line_within : (x : Spot) (i : ℕ) (s : State) → x ≡ spot_of i s → x.line < 16
+line_within x i s e = subst (λ (y : Spot). y.line < 16) (sym e) (spot-below i s)
+
+-- where a turn reads and writes is on the record
+pub ruleset within = (level_within, register_within, line_within)

@@ -6,6 +6,7 @@ use super::{lines, places, registers, rows};
 use method::{Did, Run};
 
 // One turn of station i, in place: it reads the station's row and the register or the line of its next operation, and writes both back.
+#[tactic(auto, using(crate::proofs::Placing::within))]
 pub fn step(run: &mut Run, i: u8) -> Did
     ensures { (run.new ≡ (step_of run.old i).run) × (result ≡ (step_of run.old i).did) }
 {

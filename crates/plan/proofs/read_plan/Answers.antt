@@ -1,3 +1,4 @@
+-- The text is too long, or its lines are refused, or all of the plan is copied out.
 use mathlib.Core.Path.{◌∙◌}
 use Rattle.plan.specs.Hand.{hand}
 use Rattle.text.proofs.Lengths.{too_long, not-too-long}
@@ -5,8 +6,6 @@ use Rattle.text.proofs.Answers.{refused-out}
 use Rattle.plan.proofs.Whole.{clear, cells-asked, plan-out, plan-gives, plan-kept, refusal-gives}
 use Rattle.plan.proofs.read_plan.Goals as goal
 
--- `plan::read_plan` meets its contract: the text is too long, or its lines are refused, or all of the plan is copied out.
--- Assumes nothing.
 pub returns-then-text-gt-BYTES : goal.returns-then-text-gt-BYTES
 returns-then-text-gt-BYTES c =
     let a = c.args in

@@ -1,5 +1,6 @@
 use mathlib.Core.Path.{◌∙◌, refl, ◌≡◌}
 use native.Mathlib.Omega.{arith}
+use lib.ListN.{length}
 use Rattle.method.specs.Board.{not_begun}
 use Rattle.answer.proofs.Laid.{laid-turn}
 use Rattle.answer.specs.Answer.{answer_bytes}
@@ -15,12 +16,12 @@ put_row-requires c = omega (arith, c.loop-i.invariant.1)
 pub loop-i-preserved : goal.loop-i-preserved
 loop-i-preserved c =
     let l = c.loop-i in
-    let start = c in
-    let a = start.args in
+    let a = c.args in
+    let long : length a.rows ≡ 16 = omega arith in
     let put = c.put_row in (
       omega arith,
       put.auto.dst ∙ l.invariant.1,
-      laid-turn l.i a.n a.rows (not_begun 0) a.dst.now l.dst put.new.dst start.well_formed.1.1.0.1.0.1 (omega arith) start.requires.0 start.requires.1 l.invariant.2 put.ensures,
+      laid-turn l.i a.n a.rows (not_begun 0) a.dst.now l.dst put.new.dst long (omega arith) c.requires.0 c.requires.1 l.invariant.2 put.ensures,
     )
 
 pub shape_of-dst : goal.shape_of-dst

@@ -4,8 +4,7 @@ use lib.ListN.{length, take}
 use Rattle.text.specs.Code.{code_of}
 use Rattle.fields.proofs.code.trimmed_len.Given as goal
 
--- `fields::code::trimmed_len` meets its contract. Invariant: only spaces have gone, so what is left of the front is what is left of the whole.
--- Assumes nothing.
+-- only spaces have gone, so what is left of the front is what is left of the whole
 abbrev pub invariant-loop-n : goal.invariant-loop-n
 invariant-loop-n l = (l.n ≤ length l.field) × (code_of l.field ≡ code_of (take l.n l.field))
 

@@ -5,8 +5,7 @@ use Rattle.text.specs.Text.{run}
 use Rattle.fields.specs.Window.{no_tab}
 use Rattle.fields.proofs.scan.field_end.Given as goal
 
--- `fields::scan::field_end` meets its contract. Invariant: the run from the start ends where the run from i ends.
--- Assumes nothing.
+-- the run from the start ends where the run from i ends
 abbrev pub invariant-loop-i : goal.invariant-loop-i
 invariant-loop-i l = l.at + run no_tab (drop l.at l.line) ≡ l.i + run no_tab (drop l.i l.line)
 

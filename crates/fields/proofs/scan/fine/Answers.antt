@@ -1,11 +1,10 @@
+-- Below 20 hex only a tab is fine, and from there on what is at most 7E hex.
 use mathlib.Core.Bool.{or-false}
 use native.Mathlib.Omega.{arith}
 use borrow.Author.Tests.{le-leb, lt-leb, ne_eqb}
 use lib.Dec.{eqb}
 use Rattle.fields.proofs.scan.fine.Goals as goal
 
--- `fields::scan::fine` meets its contract: below 20 hex only a tab is fine, and from there on what is at most 7E hex.
--- Assumes nothing.
 pub returns-then-b-lt32 : goal.returns-then-b-lt32
 returns-then-b-lt32 c = rw (lt-leb 32 c.args.b c.if-b-lt32.true, or-false (eqb c.args.b 9))
 

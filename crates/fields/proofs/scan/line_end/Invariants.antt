@@ -4,8 +4,7 @@ use lib.ListN.{length, drop}
 use Rattle.text.specs.Text.{fine, run}
 use Rattle.fields.proofs.scan.line_end.Given as goal
 
--- `fields::scan::line_end` meets its contract. Invariant: the run from the start ends where the run from i ends.
--- Assumes nothing.
+-- the run from the start ends where the run from i ends
 abbrev pub invariant-loop-i : goal.invariant-loop-i
 invariant-loop-i l = l.at + run fine (drop l.at l.text) ≡ l.i + run fine (drop l.i l.text)
 

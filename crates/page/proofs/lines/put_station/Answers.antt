@@ -4,16 +4,6 @@ use Rattle.page.proofs.lines.put_station.Goals as goal
 pub returns-clause-put : goal.returns-clause-put
 returns-clause-put c =
     station-put
-    _
-    _
-    _
-    _
-    _
-    _
-    _
-    _
-    _
-    _
     c.args.i
     c.args.row
     c.shown_of-told.result

@@ -31,7 +31,7 @@ loop-i-preserved c =
     let a = c.args in
     let l = c.loop-i in
     let put = c.put_station-next in
-    let long : length a.rows ≡ 16 = c.well_formed.1.1.1.0.1.0.1 in (
+    let long : length a.rows ≡ 16 = omega arith in (
       putting-more _ _ l.invariant.0 (stations-more a.n a.rows l.i c.loop-i-test.true (omega (arith, c.requires.0))) put.ensures.put,
       omega arith,
       put.auto.page ∙ l.invariant.2,

@@ -49,7 +49,7 @@ pub shape_of-page : goal.shape_of-page
 shape_of-page c = c.loop-k.invariant.2
 
 pub returns-clause-put : goal.returns-clause-put
-returns-clause-put c = (putting-all c.loop-k.invariant.0 (stocks-all c.args.cells.now c.args.lens.now c.args.count c.loop-k.k c.loop-k-test.false))
+returns-clause-put c = putting-all c.loop-k.invariant.0 (stocks-all c.args.cells.now c.args.lens.now c.args.count c.loop-k.k c.loop-k-test.false)
 
 pub returns-clause-upper_bound : goal.returns-clause-upper_bound
 returns-clause-upper_bound c = omega (arith, c.loop-k.invariant.1, c.loop-k.invariant.3)

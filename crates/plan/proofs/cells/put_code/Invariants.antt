@@ -4,8 +4,7 @@ use lib.Seq.{paste}
 use Rattle.fields.specs.Window.{part}
 use Rattle.plan.proofs.cells.put_code.Given as goal
 
--- `plan::cells::put_code` meets its contract. Invariant: the first i bytes of the code stand in the cells.
--- Assumes nothing.
+-- the first i bytes of the code stand in the cells
 abbrev pub invariant-loop-i : goal.invariant-loop-i
 invariant-loop-i l = (l.i ≤ l.len) × (l.cells ≡ paste l.initial.cells l.at (part l.text l.from (l.from + l.len)) l.i)
 

@@ -4,8 +4,7 @@ use lib.ListN.{length, drop}
 use Rattle.plan.specs.Key.{key_on}
 use Rattle.plan.proofs.compare.key_of.Given as goal
 
--- `plan::compare::key_of` meets its contract. Invariant: the key of the whole is the key so far with what is left.
--- Assumes nothing.
+-- the key of the whole is the key so far with what is left
 abbrev pub invariant-loop-i : goal.invariant-loop-i
 invariant-loop-i l = key_on 0 l.code ≡ key_on l.key (drop l.i l.code)
 

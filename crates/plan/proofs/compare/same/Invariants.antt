@@ -4,8 +4,7 @@ use lib.ListN.{length, drop}
 use Rattle.text.specs.Text.{same}
 use Rattle.plan.proofs.compare.same.Given as goal
 
--- `plan::compare::same` meets its contract. Invariant: the two are the same just where what is left of them is.
--- Assumes nothing.
+-- the two are the same just where what is left of them is
 abbrev pub invariant-loop-i : goal.invariant-loop-i
 invariant-loop-i l = (l.i ≤ length l.a) × (length l.a ≡ length l.b) × (same l.a l.b ≡ same (drop l.i l.a) (drop l.i l.b))
 

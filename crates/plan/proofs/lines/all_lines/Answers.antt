@@ -37,7 +37,7 @@ pub overflow_add-end : goal.overflow_add-end
 overflow_add-end c =
     let f = c.line_end-end in
     let m = line-most c.args.text.now 0 f.result f.ensures zero-le in
-    omega (arith, m, c.well_formed)
+    omega (arith, m)
 
 pub later_lines-requires : goal.later_lines-requires
 later_lines-requires c =

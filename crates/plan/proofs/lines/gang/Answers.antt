@@ -1,3 +1,4 @@
+-- One field, another word, three fields or more, or `GANG` and a field that is a number or not.
 use Prim.Native.Nat.{◌+◌}
 use mathlib.Core.Path.{sym, ◌∙◌}
 use native.Mathlib.Omega.{arith}
@@ -6,8 +7,6 @@ use Rattle.plan.proofs.Windows.{field-most}
 use Rattle.plan.proofs.GangLines.{gang-alone, gang-other, gang-long, gang-is}
 use Rattle.plan.proofs.lines.gang.Goals as goal
 
--- `plan::lines::gang` meets its contract: one field, another word, three fields or more, or `GANG` and a field that is a number or not.
--- Assumes nothing.
 pub slice_bounds-field_end-end : goal.slice_bounds-field_end-end
 slice_bounds-field_end-end c = sym (length-take-le c.args.end c.args.text.now c.requires)
 

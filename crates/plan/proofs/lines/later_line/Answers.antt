@@ -1,3 +1,4 @@
+-- By its word the line is a HAS line, a TURN line or refused.
 use Prim.Native.Nat.{◌≤◌}
 use mathlib.Core.Path.{sym}
 use native.Mathlib.Omega.{arith}
@@ -11,16 +12,14 @@ use Rattle.plan.proofs.lines.later_line.Goals.{After-field_end-e}
 ended : (c : After-field_end-e) → c.field_end-e.result ≤ c.args.end
 ended c = field-most c.args.text.now c.args.at c.args.end c.field_end-e.result c.field_end-e.ensures c.requires.starts_at c.requires.ends
 
--- `plan::lines::later_line` meets its contract: by its word the line is a HAS line, a TURN line or refused.
--- Assumes nothing.
 pub slice_bounds-field_end-end : goal.slice_bounds-field_end-end
 slice_bounds-field_end-end c = sym (length-take-le c.args.end c.args.text.now c.requires.ends)
 
 pub overflow_add-e : goal.overflow_add-e
-overflow_add-e c = omega (arith, ended (goal.at.overflow_add-e c).After-field_end-e, c.requires.ends, c.well_formed)
+overflow_add-e c = omega (arith, ended (goal.at.overflow_add-e c).After-field_end-e, c.requires.ends)
 
 pub overflow_add-e-in-Turn : goal.overflow_add-e-in-Turn
-overflow_add-e-in-Turn c = omega (arith, ended (goal.at.overflow_add-e-in-Turn c).After-field_end-e, c.requires.ends, c.well_formed)
+overflow_add-e-in-Turn c = omega (arith, ended (goal.at.overflow_add-e-in-Turn c).After-field_end-e, c.requires.ends)
 
 pub returns-in-Count : goal.returns-in-Count
 returns-in-Count c =

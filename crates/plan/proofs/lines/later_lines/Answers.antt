@@ -37,10 +37,10 @@ later_line-r-requires c =
     }
 
 pub overflow_add-i : goal.overflow_add-i
-overflow_add-i c = omega (arith, ended (goal.at.overflow_add-i c).After-line_end-end, c.well_formed)
+overflow_add-i c = omega (arith, ended (goal.at.overflow_add-i c).After-line_end-end)
 
 pub overflow_add-line : goal.overflow_add-line
-overflow_add-line c = omega (arith, c.loop-i.invariant.2, c.loop-i-test.true, c.well_formed)
+overflow_add-line c = omega (arith, c.loop-i.invariant.2, c.loop-i-test.true)
 
 pub loop-i-smaller : goal.loop-i-smaller
 loop-i-smaller c = omega (arith, c.line_end-end.ensures, c.loop-i-test.true)

@@ -6,8 +6,7 @@ use Rattle.text.specs.Plan.{later_lines}
 use Rattle.plan.specs.Hand.{hand, held_of, PlanIn}
 use Rattle.plan.proofs.lines.later_lines.Given as goal
 
--- `plan::lines::later_lines` meets its contract. Invariant: the lines from the start give what the lines from i give with the plan so far.
--- Assumes nothing.
+-- the lines from the start give what the lines from i give with the plan so far
 abbrev pub invariant-loop-i : goal.invariant-loop-i
 invariant-loop-i l = PlanIn l.text l.n (hand l.sets l.starts l.lens l.keys l.turns) l.stocks l.turned
     × (later_lines 2 (held_of l.text l.n (hand l.initial.sets l.initial.starts l.initial.lens l.initial.keys l.initial.turns) 0 0) (lines_of (drop l.from l.text))

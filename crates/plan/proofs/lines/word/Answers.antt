@@ -4,8 +4,6 @@ use Rattle.text.specs.Text.{same}
 use Rattle.text.specs.Plan.{HAS, TURN, word_of}
 use Rattle.plan.proofs.lines.word.Goals as goal
 
--- `plan::lines::word` meets its contract.
--- Assumes nothing.
 pub returns-then-same : goal.returns-then-same
 unfolding word_of
 returns-then-same c =

@@ -29,7 +29,7 @@ take_code-r-requires c =
     }
 
 pub overflow_add-i : goal.overflow_add-i
-overflow_add-i c = omega (arith, ended (goal.at.overflow_add-i c).After-field_end-e, c.requires.ends, c.well_formed)
+overflow_add-i c = omega (arith, ended (goal.at.overflow_add-i c).After-field_end-e, c.requires.ends)
 
 pub loop-i-smaller : goal.loop-i-smaller
 loop-i-smaller c = omega (arith, c.field_end-e.ensures, c.loop-i-test.true)

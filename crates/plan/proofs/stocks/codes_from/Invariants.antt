@@ -5,8 +5,7 @@ use Rattle.fields.specs.Window.{fields_from}
 use Rattle.plan.specs.Hand.{Table, codes_in}
 use Rattle.plan.proofs.stocks.codes_from.Given as goal
 
--- `plan::stocks::codes_from` meets its contract. Invariant: the fields from the start give what the fields from i give with the table and the set so far.
--- Assumes nothing.
+-- the fields from the start give what the fields from i give with the table and the set so far
 abbrev pub invariant-loop-i : goal.invariant-loop-i
 invariant-loop-i l = Table l.text l.starts l.lens l.keys l.k
     × (each take_code (holding (codes_in l.text l.initial.starts l.initial.lens l.count) l.set) (fields_from l.text l.at l.end)

@@ -1,3 +1,4 @@
+-- Too few fields, no station, a code that is refused, or the station's set with its codes.
 use mathlib.Core.Path.{sym}
 use native.Mathlib.Omega.{arith}
 use lib.Seq.{length-take-le}
@@ -6,8 +7,6 @@ use Rattle.text.proofs.Numbers.{number-most}
 use Rattle.plan.proofs.HasLines.{read_none, read_one, read-nobody, read-refused, read_taken}
 use Rattle.plan.proofs.stocks.has_line.Goals as goal
 
--- `plan::stocks::has_line` meets its contract: too few fields, no station, a code that is refused, or the station's set with its codes.
--- Assumes nothing.
 pub returns-then-at-end : goal.returns-then-at-end
 returns-then-at-end c = read_none c.args.at c.requires c.if-at-end.true
 
@@ -25,12 +24,12 @@ returns-then-station-eq0 c =
 pub bounds-sets-i : goal.bounds-sets-i
 bounds-sets-i c =
     let n = c.number-station in
-    (omega (arith, number-most c.args.n (part c.args.text.now c.args.at c.field_end-e.result), n.ensures, c.requires.stations))
+    omega (arith, number-most c.args.n (part c.args.text.now c.args.at c.field_end-e.result), n.ensures, c.requires.stations)
 
 pub bounds-sets-i-in-Stocks : goal.bounds-sets-i-in-Stocks
 bounds-sets-i-in-Stocks c =
     let n = c.number-station in
-    (omega (arith, number-most c.args.n (part c.args.text.now c.args.at c.field_end-e.result), n.ensures, c.requires.stations))
+    omega (arith, number-most c.args.n (part c.args.text.now c.args.at c.field_end-e.result), n.ensures, c.requires.stations)
 
 pub returns-in-Stocks : goal.returns-in-Stocks
 returns-in-Stocks c =

@@ -6,8 +6,7 @@ use Rattle.fields.specs.Window.{part}
 use Rattle.plan.specs.Hand.{codes_in}
 use Rattle.plan.proofs.stocks.stock_of.Given as goal
 
--- `plan::stocks::stock_of` meets its contract. Invariant: the code is none of the first j, so its number is j and its number among the rest.
--- Assumes nothing.
+-- the code is none of the first j, so its number is j and its number among the rest
 abbrev pub invariant-loop-j : goal.invariant-loop-j
 invariant-loop-j l = (l.j ≤ l.count)
     × (stock_of (part l.text l.at l.end) (codes_in l.text l.starts l.lens l.count) ≡ l.j + stock_of (part l.text l.at l.end) (drop l.j (codes_in l.text l.starts l.lens l.count)))

@@ -48,7 +48,7 @@ returns-then-k-ge-TURNS c =
     }
 
 pub overflow_add-i : goal.overflow_add-i
-overflow_add-i c = omega (arith, ended (goal.at.overflow_add-i c).After-field_end-e, c.requires.inside, c.well_formed)
+overflow_add-i c = omega (arith, ended (goal.at.overflow_add-i c).After-field_end-e, c.requires.inside)
 
 pub loop-i-smaller : goal.loop-i-smaller
 loop-i-smaller c = omega (arith, c.field_end-e.ensures, c.loop-i-test.true)

@@ -6,8 +6,7 @@ use Rattle.fields.specs.Window.{fields_from}
 use Rattle.plan.specs.Hand.{TurnsIn}
 use Rattle.plan.proofs.turns.turns_from.Given as goal
 
--- `plan::turns::turns_from` meets its contract. Invariant: the fields from the start give what the fields from i give with the turns so far.
--- Assumes nothing.
+-- the fields from the start give what the fields from i give with the turns so far
 abbrev pub invariant-loop-i : goal.invariant-loop-i
 invariant-loop-i l = TurnsIn l.k l.turns
     × (each (take_turn l.n) (take l.count l.initial.turns) (fields_from l.text l.at l.end) ≡ each (take_turn l.n) (take l.k l.turns) (fields_from l.text l.i l.end))

@@ -8,7 +8,7 @@ pub loop-t-init : goal.loop-t-init
 loop-t-init c = passed_none _ _
 
 pub overflow_cast-turns : goal.overflow_cast-turns
-overflow_cast-turns c = omega (arith, c.shared_slice_known-in-loop-t-1.given c.loop-t.t)
+overflow_cast-turns c = omega (arith, c.type_inv.turns c.loop-t.t)
 
 pub returns-else-is_station : goal.returns-else-is_station
 returns-else-is_station c = search (bad-stops, rules)
