@@ -3,3 +3,4 @@ pub mod Limits
 pub mod Placed
 pub mod Mask
 pub mod Arrays
+pub mod Absent
