@@ -4,6 +4,7 @@
 use Prim.Native.Nat.{ℕ, zero, suc, ◌-◌, ◌≤◌}
 use mathlib.Core.Path.{◌≡◌, refl, sym, ap, ◌∙◌}
 use mathlib.Core.List.{List}
+use Rattle.std.specs.Prelude.{Result, Ok, Err}
 use native.Mathlib.Omega.{arith}
 use lib.ListN.{length}
 use Rattle.sets.specs.Placed.{with_place}
@@ -15,8 +16,8 @@ use Rattle.text.proofs.Outcomes.{sound, fault-most, place-most}
 use Rattle.text.specs.Refusal.{number_of, Told, counts, refusal, told, returned}
 use Rattle.text.specs.declared.Fault.{Fault}
 use Rattle.text.specs.declared.Fault.TheVariants.{LongText, BadFirstLine, StrayByte, OtherWord, FewFields, BadStation, BadCode, MoreStocks, MoreTurns}
-use Rattle.text.specs.declared.Answer.{Answer}
-use Rattle.text.specs.declared.Answer.TheVariants.{Plan, Refused}
+use Rattle.text.specs.declared.Counts.{Counts}
+use Rattle.text.specs.declared.Refusal.{Refusal}
 
 -- the row of the table, from 0
 row : ℕ → Fault
@@ -42,16 +43,16 @@ row_of BadCode = refl
 row_of MoreStocks = refl
 row_of MoreTurns = refl
 
-back : Told → Answer
-back (counts n s t) = Plan n s t
-back (refusal number place) = Refused (row (number - 11)) place
+back : Told → Result Counts Refusal
+back (counts n s t) = Ok (record { stations = n; stocks = s; turns = t })
+back (refusal number place) = Err (record { fault = row (number - 11); place = place })
 
-back-told : (a : Answer) → back (told a) ≡ a
+back-told : (r : Result Counts Refusal) → back (told r) ≡ r
 unfolding back
-back-told (Plan n s t) = refl
-back-told (Refused fault place) = ap (λ (f : Fault). Refused f place) (row_of fault)
+back-told (Ok c) = refl
+back-told (Err r) = ap (λ (fault : Fault). Err (record { fault = fault; place = r.place })) (row_of r.fault)
 
-pub told-fixes : (a b : Answer) → told a ≡ told b → a ≡ b
+pub told-fixes : (a b : Result Counts Refusal) → told a ≡ told b → a ≡ b
 told-fixes a b e = sym (back-told a) ∙ ap back e ∙ back-told b
 
 -- ---- what a caller learns

@@ -1,10 +1,10 @@
 -- What an answer says in the numbers of MODEL 8: a plan's counts, or a refusal's number and place.
-use Rattle.std.specs.Prelude.{ℕ}
+use Rattle.std.specs.Prelude.{ℕ, Result, Ok, Err}
 use Rattle.sets.specs.Placed.{with_place}
 use Rattle.text.specs.declared.Fault.{Fault}
 use Rattle.text.specs.declared.Fault.TheVariants.{LongText, BadFirstLine, StrayByte, OtherWord, FewFields, BadStation, BadCode, MoreStocks, MoreTurns}
-use Rattle.text.specs.declared.Answer.{Answer}
-use Rattle.text.specs.declared.Answer.TheVariants.{Plan, Refused}
+use Rattle.text.specs.declared.Counts.{Counts}
+use Rattle.text.specs.declared.Refusal.{Refusal}
 
 -- the numbers of the table in MODEL 8
 unfoldable pub number_of : Fault → ℕ
@@ -22,9 +22,9 @@ pub data Told : Type 0 where
   counts : (stations stocks turns : ℕ) → Told
   refusal : (number place : ℕ) → Told
 
-abbrev pub told : Answer → Told
-told (Plan n stocks turns) = counts n stocks turns
-told (Refused fault place) = refusal (number_of fault) place
+abbrev pub told : Result Counts Refusal → Told
+told (Ok c) = counts c.stations c.stocks c.turns
+told (Err r) = refusal (number_of r.fault) r.place
 
 -- the same as one number, as the run call returns it: 0 for a plan that is taken
 abbrev pub returned : Told → ℕ

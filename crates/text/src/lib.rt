@@ -5,7 +5,7 @@ ghost use Rattle.std.specs.Prelude.{◌≡◌};
 ghost use Rattle.text.specs.Refusal.{number_of};
 
 // The rows of the table in MODEL 8, each with its number there.
-#[derive(Clone, Copy)]
+#[derive(Clone, Copy, Debug, PartialEq, Eq)]
 pub enum Fault {
     // 11: the text has more than 32,768 bytes
     LongText,
@@ -27,22 +27,23 @@ pub enum Fault {
     MoreTurns,
 }
 
-// A plan that was read, by its counts; or the one refusal, at its place.
-#[derive(Clone, Copy)]
-pub enum Answer {
-    Plan {
-        stations: u8,
-        stocks: usize,
-        turns: usize,
-    },
-    Refused {
-        fault: Fault,
-        place: usize,
-    },
+// A plan that was read, by its counts.
+#[derive(Clone, Copy, Debug, PartialEq, Eq)]
+pub struct Counts {
+    pub stations: u8,
+    pub stocks: usize,
+    pub turns: usize,
+}
+
+// The one refusal of a plan, at its place.
+#[derive(Clone, Copy, Debug, PartialEq, Eq)]
+pub struct Refusal {
+    pub fault: Fault,
+    pub place: usize,
 }
 
 // The first field of a later line.
-#[derive(Clone, Copy)]
+#[derive(Clone, Copy, Debug, PartialEq, Eq)]
 pub enum Word {
     Has,
     Turn,
@@ -50,19 +51,21 @@ pub enum Word {
 }
 
 // The number of a refusal in the table of MODEL 8.
-#[tactic(auto, unfolding(crate::specs::Refusal::number_of))]
-pub fn number_of(fault: Fault) -> u8
-    ensures { result ≡ number_of fault }
-{
-    match fault {
-        Fault::LongText => 11,
-        Fault::BadFirstLine => 12,
-        Fault::StrayByte => 13,
-        Fault::OtherWord => 14,
-        Fault::FewFields => 15,
-        Fault::BadStation => 16,
-        Fault::BadCode => 17,
-        Fault::MoreStocks => 18,
-        Fault::MoreTurns => 19,
+impl From<Fault> for u8 {
+    ghost from_gives = { λ fault number. number ≡ number_of fault };
+
+    #[tactic(auto, unfolding(crate::specs::Refusal::number_of))]
+    fn from(fault: Fault) -> u8 {
+        match fault {
+            Fault::LongText => 11,
+            Fault::BadFirstLine => 12,
+            Fault::StrayByte => 13,
+            Fault::OtherWord => 14,
+            Fault::FewFields => 15,
+            Fault::BadStation => 16,
+            Fault::BadCode => 17,
+            Fault::MoreStocks => 18,
+            Fault::MoreTurns => 19,
+        }
     }
 }
