@@ -1,71 +1,50 @@
 // Reading an input to its end.
 #![tactic(auto)]
 
-ghost use Rattle.std.specs.Prelude.{◌≤◌, length};
-ghost use Rattle.input.specs.Within.{Within, brought, Gave, GaveSome, NoSignal, NoSignalStep};
+ghost use Rattle.std.specs.Prelude.{◌≤◌, length, unwrap_or, IfOk, IfErr};
+ghost use Rattle.input.specs.Within.{IsPrefixLen, Gave, GaveSome, NoSignal};
 
+use std::io;
 use std::io::{Error, ErrorKind, Read};
 
-// A whole text of so many bytes; or a read failed before its end, and the error says why.
-#[derive(Clone, Copy)]
-pub enum Input {
-    Whole(usize),
-    Failed(Error),
-}
-
-// What one read came to: so many bytes, and there may be more; the end; or a failure.
-#[derive(Clone, Copy)]
-enum Step {
-    More(usize),
-    End,
-    Failed(Error),
-}
-
-// Reads once. A full buffer is an end too. A read that a signal interrupted brought nothing and is to be made again.
-fn read_some<R: Read>(reader: &mut R, rest: &mut [u8]) -> Step
-    ensures count { brought result ≤ length rest.old }
-    ensures bytes { GaveSome (R.remaining reader.old) (R.remaining reader.new) result rest.new }
-    ensures failure { NoSignalStep result }
+// Reads once: so many bytes came, and there may be more; or `None` at the end. A full buffer is an end too. A read that a signal
+// interrupted brought nothing and is to be made again.
+fn read_some<R: Read>(reader: &mut R, rest: &mut [u8]) -> io::Result<Option<usize>>
+    ensures count { IfOk result (λ came. unwrap_or came 0 ≤ length rest.old) }
+    ensures bytes { IfOk result (λ came. GaveSome (R.remaining reader.old) (R.remaining reader.new) came rest.new) }
+    ensures failure { IfErr result NoSignal }
 {
     if rest.is_empty() {
-        return Step::End;
+        return Ok(None);
     }
     match reader.read(rest) {
-        Ok(0) => Step::End,
-        Ok(count) => Step::More(count),
-        Err(error) if error.kind() == ErrorKind::Interrupted => Step::More(0),
-        Err(error) => Step::Failed(error),
+        Ok(0) => Ok(None),
+        Ok(count) => Ok(Some(count)),
+        Err(error) if error.kind() == ErrorKind::Interrupted => Ok(Some(0)),
+        Err(error) => Err(error),
     }
 }
 
-// Reads until the input ends or the buffer is full. Nothing says that an input ends, so the reads are counted, up to a number that no run
-// uses up.
-pub fn read_all<R: Read>(reader: &mut R, text: &mut [u8]) -> Input
-    ensures within { Within result text.new }
-    ensures bytes { Gave (R.remaining reader.old) (R.remaining reader.new) result text.new }
-    ensures failure { NoSignal result }
+// Reads until the input ends or the buffer is full, and returns how many bytes came. Nothing says that an input ends, so the reads are
+// counted, up to a number that no run uses up.
+pub fn read_all<R: Read>(reader: &mut R, text: &mut [u8]) -> io::Result<usize>
+    ensures within { IfOk result (λ n. IsPrefixLen n text.new) }
+    ensures bytes { IfOk result (λ n. Gave (R.remaining reader.old) (R.remaining reader.new) n text.new) }
+    ensures failure { IfErr result NoSignal }
 {
     let mut at = 0;
     for _ in 0..u64::MAX {
-        match read_some(reader, &mut text[at..]) {
-            Step::More(count) => {
-                at += count;
-            }
-            Step::End => {
-                return Input::Whole(at);
-            }
-            Step::Failed(error) => {
-                return Input::Failed(error);
-            }
+        match read_some(reader, &mut text[at..])? {
+            Some(count) => at += count,
+            None => return Ok(at),
         }
     }
-    Input::Failed(Error::other("the input does not end"))
+    Err(Error::other("the input does not end"))
 }
 
 #[cfg(test)]
 mod tests {
     use super::*;
-    use std::io;
 
     // Gives two bytes a read. One read fails, with an error of this kind, and those after it go on.
     #[derive(Drop)]
@@ -96,10 +75,7 @@ mod tests {
             bad,
             kind,
         };
-        match read_all(&mut reader, room) {
-            Input::Whole(count) => Ok(count),
-            Input::Failed(error) => Err(error.kind()),
-        }
+        read_all(&mut reader, room).map_err(|error| error.kind())
     }
 
     #[test]
