@@ -1,43 +1,67 @@
 -- The answer bytes laid into a buffer, row after row.
-use Prim.Native.Nat.{ℕ, zero, suc, ◌+◌, ◌*◌, ◌≤◌, ◌<◌}
+use Prim.Native.Nat.{ℕ, zero, suc, ◌+◌, ◌-◌, ◌*◌, ◌/◌, ◌%◌, ◌^◌, ◌≤◌, ◌<◌}
 use mathlib.Core.Path.{◌≡◌, refl, sym, ap, ◌∙◌}
 use mathlib.Core.List.{List, [], ◌∷◌, ◌++◌, append_assoc, append-nil}
-use native.Mathlib.Nat.{add-zero}
-use native.Mathlib.Numerals.{towards_suc}
+use native.Mathlib.Nat.{div-div-eq-div-mul, mul_comm, pow-succ'}
 use native.Mathlib.Omega.{arith}
 use borrow.Author.Tests.{le-leb, lt-leb}
+use borrow.Rule.Slice.PartMut.{put_mid}
 use mathlib.Core.Bool.{and-false}
 use lib.Dec.{leb}
-use lib.ListN.{length, get_or, drop, set, length-append, length-drop}
-use lib.Seq.{sets, sets-eq, take_at, drop-append-add, drop-drop}
+use lib.ListN.{length, get_or, take, drop, set, length-append, length-drop, drop_of_length-le}
+use lib.Seq.{take_at, drop_at, drop-drop}
+use Rattle.std.specs.Int.{w16, w64, bytes_low_first, to_le_bytes}
 use Rattle.method.specs.declared.Row.{Row}
 use Rattle.answer.specs.Bytes.{bytes_of}
 use Rattle.answer.specs.declared.shown.Shown.{Shown}
-use Rattle.answer.specs.Answer.{shown_of, row_bytes, answer_bytes, answer_in}
+use Rattle.answer.specs.Answer.{shown_of, state_number, stations_shown, stocks_shown, row_bytes, answer_bytes, answer_in}
 
--- stores of two lists, one behind the other
-pub sets-append : (l : List ℕ) (i : ℕ) (xs ys : List ℕ) → sets l i (xs ++ ys) ≡ sets (sets l i xs) (i + length xs) ys
-sets-append l i [] ys = rw add-zero
-sets-append l i (x ∷ xs) ys =
-    let e : suc i + length xs ≡ i + suc (length xs) = omega arith in
-    rw (← e) (sets-append (set l i x) (suc i) xs ys)
+-- ---- a number's bytes, as the library has them
+
+bytes-behind : (i k n : ℕ) → bytes_low_first (suc i) k n ≡ bytes_of k (n / 256 ^ suc i)
+unfolding bytes_of
+bytes-behind i zero n = refl
+bytes-behind i (suc k) n =
+    let next : n / 256 ^ suc (suc i) ≡ n / 256 ^ suc i / 256 =
+    ap (λ (m : ℕ). n / m) (pow-succ' 256 (suc i) ∙ mul_comm 256 (256 ^ suc i)) ∙ sym (div-div-eq-div-mul n (256 ^ suc i) 256) in
+    ap (λ (l : List ℕ). n / 256 ^ suc i % 256 ∷ l) (bytes-behind (suc i) k n ∙ ap (bytes_of k) next)
+
+bytes-are : (k n : ℕ) → bytes_low_first 0 (suc k) n ≡ bytes_of (suc k) n
+unfolding bytes_of
+bytes-are k n = ap (λ (l : List ℕ). n % 256 ∷ l) (bytes-behind 0 k n)
+
+pub two_bytes : (n : ℕ) → to_le_bytes w16 n ≡ bytes_of 2 n
+two_bytes n = bytes-are 1 n
+
+pub eight_bytes : (n : ℕ) → to_le_bytes w64 n ≡ bytes_of 8 n
+eight_bytes n = bytes-are 7 n
+
+-- ---- a row
 
 pub row-length : (r : Row) → length (row_bytes r) ≡ 20
 unfolding row_bytes bytes_of
 row-length r = refl
 
--- two stores and a count's bytes are a row's head; the head and the bytes of two sets are the row's
-pub head-laid : (l last : List ℕ) (at s c : ℕ) → last ≡ sets (set (set l at s) (at + 1) 0) (at + 2) (bytes_of 2 c) → last ≡ sets l at (s ∷ 0 ∷ bytes_of 2 c)
-head-laid l last at s c e = e ∙ simp towards_suc
+-- the parts of a row, each in its place
+parts-laid : (l : List ℕ) (s n S G : ℕ) → length l ≡ 20
+    → put_mid 12 8 (put_mid 4 8 (put_mid 2 2 (set (set l 0 s) 1 0) (bytes_of 2 n)) (bytes_of 8 S)) (bytes_of 8 G) ≡ s ∷ 0 ∷ bytes_of 2 n ++ bytes_of 8 S ++ bytes_of 8 G
+unfolding bytes_of
+parts-laid [] s n S G h = absurd (omega arith)
+parts-laid (x ∷ []) s n S G h = absurd (omega arith)
+parts-laid (x ∷ y ∷ l) s n S G h = rw (drop_of_length-le (drop 8 (drop 2 l)) {i = 8} (simp length-drop (omega arith)))
 
-pub row_laid : (l h m last : List ℕ) (at : ℕ) (r : Row) (told : Shown) → told ≡ shown_of r.state
-    → h ≡ sets l at (told.number ∷ 0 ∷ bytes_of 2 r.count) → m ≡ sets h (at + 4) (bytes_of 8 told.stations) → last ≡ sets m (at + 12) (bytes_of 8 told.stocks) → last ≡ sets l at (row_bytes r)
-unfolding row_bytes bytes_of
-row_laid l h m last at r told p e f g =
-    let front : List ℕ = (shown_of r.state).number ∷ 0 ∷ bytes_of 2 r.count in
-    let first : List ℕ = bytes_of 8 (shown_of r.state).stations in
-    let second : List ℕ = bytes_of 8 (shown_of r.state).stocks in
-    rw (g, f, e, p) (sym (sets-append l at (front ++ first) second ∙ ap (λ (z : List ℕ). sets z (at + 12) second) (sets-append l at front first)))
+pub row_laid : (l a b c a' b' c' : List ℕ) (r : Row) (told : Shown) (number stations stocks : ℕ) → length l ≡ 20 → told ≡ shown_of r.state
+    → number ≡ state_number told → a' ≡ to_le_bytes w16 r.count → a ≡ a' → stations ≡ stations_shown told → b' ≡ to_le_bytes w64 stations → b ≡ b'
+    → stocks ≡ stocks_shown told → c' ≡ to_le_bytes w64 stocks → c ≡ c'
+    → put_mid 12 8 (put_mid 4 8 (put_mid 2 2 (set (set l 0 number) 1 0) a) b) c ≡ row_bytes r
+unfolding row_bytes
+row_laid l a b c a' b' c' r told number stations stocks h e f g g' i j j' k m m' =
+    let count : a ≡ bytes_of 2 r.count = g' ∙ g ∙ two_bytes r.count in
+    let first : b ≡ bytes_of 8 stations = j' ∙ j ∙ eight_bytes stations in
+    let second : c ≡ bytes_of 8 stocks = m' ∙ m ∙ eight_bytes stocks in
+    rw (count, first, second, f, i, k, e) (parts-laid l _ _ _ _ h)
+
+-- ---- row after row
 
 pub answer-more : (i : ℕ) (rows : List Row) (d : Row) → i < length rows → answer_bytes (i + 1) rows ≡ answer_bytes i rows ++ row_bytes (get_or rows i d)
 unfolding answer_bytes
@@ -55,25 +79,35 @@ answer-length (suc i) (r ∷ rows) h =
     let ih : length (answer_bytes i rows) ≡ 20 * i = answer-length i rows (omega arith) in
     length-append (row_bytes r) (answer_bytes i rows) ∙ rw (row-length r, ih) (omega arith)
 
--- one row more
-pub laid_more : (i : ℕ) (rows : List Row) (d : Row) (start : List ℕ) → i < length rows → 20 * (i + 1) ≤ length start
-    → sets (answer_bytes i rows ++ drop (20 * i) start) (20 * i) (row_bytes (get_or rows i d)) ≡ answer_bytes (i + 1) rows ++ drop (20 * (i + 1)) start
-laid_more i rows d start h room =
-    let A = answer_bytes i rows in
-    let D = drop (20 * i) start in
-    let R = row_bytes (get_or rows i d) in
-    let long : length A ≡ 20 * i = answer-length i rows (omega arith) in
-    let row : length R ≡ 20 = row-length (get_or rows i d) in
-    let next : 20 * i + length R ≡ 20 * (i + 1) = omega arith in
-    let fits : 20 * i + length R ≤ length (A ++ D) = simp (length-append, length-drop) (omega arith) in
-    let past : drop (20 * i + length R) (A ++ D) ≡ drop (20 * (i + 1)) start =
-    ap (λ (k : ℕ). drop (k + length R) (A ++ D)) (sym long) ∙ drop-append-add A D (length R) ∙ drop-drop (length R) (20 * i) start
-    ∙ ap (λ (k : ℕ). drop k start) next in
-    sets-eq R (A ++ D) (20 * i) fits ∙ rw (take_at A D (20 * i) long, past, answer-more i rows d h)
+pub none_laid : (rows : List Row) (start : List ℕ) → start ≡ answer_bytes 0 rows ++ start
+unfolding answer_bytes
+none_laid rows start = refl
 
-pub laid-turn : (i n : ℕ) (rows : List Row) (d : Row) (start now last : List ℕ) → length rows ≡ 16 → i < n → n ≤ 16 → 20 * n ≤ length start
-    → now ≡ answer_bytes i rows ++ drop (20 * i) start → last ≡ sets now (20 * i) (row_bytes (get_or rows i d)) → last ≡ answer_bytes (i + 1) rows ++ drop (20 * (i + 1)) start
-laid-turn i n rows d start now last l h m room e f = f ∙ rw e (laid_more i rows d start (omega arith) (omega arith))
+-- rows behind the first n do not count
+pub answer-take : (n : ℕ) (rows : List Row) → answer_bytes n (take n rows) ≡ answer_bytes n rows
+unfolding answer_bytes
+answer-take zero rows = refl
+answer-take (suc n) [] = refl
+answer-take (suc n) (r ∷ rows) = ap (λ (l : List ℕ). row_bytes r ++ l) (answer-take n rows)
+
+-- one row more
+pub laid_more : (i : ℕ) (rows : List Row) (d : Row) (start now part : List ℕ) → i < length rows → 20 * length rows ≤ length start
+    → now ≡ answer_bytes i rows ++ drop (20 * i) start → part ≡ row_bytes (get_or rows i d)
+    → put_mid (20 * i) (20 * i + 20 - 20 * i) now part ≡ answer_bytes (i + 1) rows ++ drop (20 * (i + 1)) start
+laid_more i rows d start now part h room e f =
+    let long : length (answer_bytes i rows) ≡ 20 * i = answer-length i rows (omega arith) in
+    let twenty : 20 * i + 20 - 20 * i ≡ 20 = omega arith in
+    let next : 20 * i + 20 ≡ 20 * (i + 1) = omega arith in
+    rw (
+      e,
+      f,
+      take_at (answer_bytes i rows) (drop (20 * i) start) (20 * i) long,
+      drop_at (answer_bytes i rows) (drop (20 * i) start) (20 * i) long,
+      twenty,
+      drop-drop 20 (20 * i) start,
+      next,
+      answer-more i rows d h,
+    ) (sym (append_assoc (answer_bytes i rows) (row_bytes (get_or rows i d)) (drop (20 * (i + 1)) start)))
 
 -- ---- the answer, with room for the rows and without
 
@@ -91,3 +125,5 @@ answer-short n rows was room = rw (lt-leb (20 * n) (length was) room, and-false 
 pub answer-none : (n : ℕ) (rows : List Row) (was : List ℕ) → 16 < n → was ≡ answer_in n rows was
 unfolding answer_in
 answer-none n rows was h = rw (lt-leb n 16 h)
+
+pub ruleset outcomes = (answer-told, answer-short, answer-none)

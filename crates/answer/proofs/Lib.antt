@@ -1,4 +1,2 @@
 -- Laws for the proofs of this crate.
-mod Little
-mod Showing
 pub mod Laid

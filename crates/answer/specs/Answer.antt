@@ -5,22 +5,38 @@ use Rattle.method.specs.declared.State.{State}
 use Rattle.method.specs.declared.State.TheVariants.{NotBegun, Uniting, Gathering, Settled}
 use Rattle.method.specs.declared.Row.{Row}
 use Rattle.answer.specs.declared.shown.Shown.{Shown}
+use Rattle.answer.specs.declared.shown.Shown.TheVariants as shown
 use Rattle.answer.specs.Bytes.{bytes_of}
 
-abbrev pub shows : ℕ → ℕ → ℕ → Shown
-shows number stations stocks = record { number = number; stations = stations; stocks = stocks }
-
--- "the state (0 not begun, 1 under way, 2 settled)". "Until a station has settled its two sets are zero."
+-- a station that is uniting or gathering is under way
 abbrev pub shown_of : State → Shown
-shown_of (NotBegun stocks) = shows 0 0 0
-shown_of (Uniting k own other side round) = shows 1 0 0
-shown_of (Gathering S j got) = shows 1 0 0
-shown_of (Settled S got) = shows 2 S got
+shown_of (NotBegun stocks) = shown.NotBegun
+shown_of (Uniting k own other side round) = shown.UnderWay
+shown_of (Gathering S j got) = shown.UnderWay
+shown_of (Settled S got) = shown.Settled S got
+
+-- "the state (0 not begun, 1 under way, 2 settled)"
+abbrev pub state_number : Shown → ℕ
+state_number shown.NotBegun = 0
+state_number shown.UnderWay = 1
+state_number (shown.Settled S got) = 2
+
+-- "Until a station has settled its two sets are zero."
+abbrev pub stations_shown : Shown → ℕ
+stations_shown shown.NotBegun = 0
+stations_shown shown.UnderWay = 0
+stations_shown (shown.Settled S got) = S
+
+abbrev pub stocks_shown : Shown → ℕ
+stocks_shown shown.NotBegun = 0
+stocks_shown shown.UnderWay = 0
+stocks_shown (shown.Settled S got) = got
 
 -- "the state .. , a zero byte, the count in 2 bytes, the settled set of stations in 8 and that of stocks in 8"
 unfoldable pub row_bytes : Row → List ℕ
 row_bytes r =
-    (shown_of r.state).number ∷ 0 ∷ bytes_of 2 r.count ++ bytes_of 8 (shown_of r.state).stations ++ bytes_of 8 (shown_of r.state).stocks
+    let shows = shown_of r.state in
+    state_number shows ∷ 0 ∷ bytes_of 2 r.count ++ bytes_of 8 (stations_shown shows) ++ bytes_of 8 (stocks_shown shows)
 
 -- the first n rows, one after the other
 unfoldable pub answer_bytes : ℕ → List Row → List ℕ

@@ -4,8 +4,5 @@
 // A station's state, as it is shown.
 pub mod shown;
 
-// Numbers as bytes.
-mod words;
-
 // The rows as answer bytes.
 pub mod told;

@@ -1,40 +1,63 @@
 // What is shown of a station's state.
 ghost use Rattle.std.specs.Prelude.{◌≡◌};
-ghost use Rattle.answer.specs.Answer.{shown_of};
+ghost use Rattle.answer.specs.Answer.{shown_of, state_number, stations_shown, stocks_shown};
 
 use method::State;
 
-// 0 not begun, 1 under way, 2 settled; and the settled stations and stocks, none until then.
-#[derive(Clone, Copy)]
-pub struct Shown {
-    pub number: u8,
-    pub stations: u64,
-    pub stocks: u64,
+// The stations and the stocks of a settled set are shown once it has settled, and nothing of them until then.
+#[derive(Clone, Copy, PartialEq, Eq, Debug)]
+pub enum Shown {
+    NotBegun,
+    UnderWay,
+    Settled { stations: u64, stocks: u64 },
 }
 
-pub fn shown_of(state: State) -> Shown
-    ensures { result ≡ shown_of state }
-{
-    match state {
-        State::NotBegun { .. } => Shown {
-            number: 0,
-            stations: 0,
-            stocks: 0,
-        },
-        State::Uniting { .. } => Shown {
-            number: 1,
-            stations: 0,
-            stocks: 0,
-        },
-        State::Gathering { .. } => Shown {
-            number: 1,
-            stations: 0,
-            stocks: 0,
-        },
-        State::Settled { set, stocks } => Shown {
-            number: 2,
-            stations: set,
-            stocks,
-        },
+impl Shown {
+    // The settled stations; none until then.
+    pub(super) fn stations(self) -> u64
+        ensures { result ≡ stations_shown self }
+    {
+        match self {
+            Shown::Settled { stations, .. } => stations,
+            Shown::NotBegun | Shown::UnderWay => 0,
+        }
+    }
+
+    // The settled stocks; none until then.
+    pub(super) fn stocks(self) -> u64
+        ensures { result ≡ stocks_shown self }
+    {
+        match self {
+            Shown::Settled { stocks, .. } => stocks,
+            Shown::NotBegun | Shown::UnderWay => 0,
+        }
+    }
+}
+
+impl From<State> for Shown {
+    ghost from_gives = { λ state shown. shown ≡ shown_of state };
+
+    fn from(state: State) -> Shown {
+        match state {
+            State::NotBegun { .. } => Shown::NotBegun,
+            State::Uniting { .. } | State::Gathering { .. } => Shown::UnderWay,
+            State::Settled { set, stocks } => Shown::Settled {
+                stations: set,
+                stocks,
+            },
+        }
+    }
+}
+
+// The state's number: 0 not begun, 1 under way, 2 settled.
+impl From<Shown> for u8 {
+    ghost from_gives = { λ shown number. number ≡ state_number shown };
+
+    fn from(shown: Shown) -> u8 {
+        match shown {
+            Shown::NotBegun => 0,
+            Shown::UnderWay => 1,
+            Shown::Settled { .. } => 2,
+        }
     }
 }
