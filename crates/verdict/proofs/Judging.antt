@@ -1,81 +1,81 @@
 -- The refusals before the first turn, by their tests, and what a call that passes them has.
-use Prim.Native.Nat.{ℕ, ◌+◌, ◌*◌, ◌≤◌, ◌<◌}
+use Prim.Native.Nat.{ℕ, suc, ◌+◌, ◌*◌, ◌≤◌, ◌<◌}
 use mathlib.Core.Path.{◌≡◌, refl, sym, ap, ◌∙◌}
-use mathlib.Core.Bool.{Bool, true, false, cond, not, ◌&&◌, and-false, false≢true}
-use mathlib.Core.List.{List}
+use mathlib.Core.Bool.{Bool, true, false, cond, not, ◌&&◌, false≢true}
+use mathlib.Core.List.{List, [], ◌∷◌}
 use native.Mathlib.Omega.{arith}
-use borrow.Author.Tests.{lt-ltb, le-ltb, ltb-false, le-leb, lt-leb, leb-true, eq-eqb, ne_eqb, eqb-true}
-use lib.Dec.{leb}
+use borrow.Author.Tests.{ltb-false, le-leb, lt-leb, leb-true, eq-eqb, ne_eqb, eqb-true}
+use lib.Dec.{leb, ltb}
 use lib.ListN.{length, get_or}
-use Rattle.verdict.specs.declared.Verdict.{Verdict}
-use Rattle.verdict.specs.declared.Verdict.TheVariants.{Accepted, BadStationCount, BadInputBytes, TooManyTurns, BadTurn, ShortAnswer, UnwrittenLine}
+use Rattle.std.specs.Prelude.{Result, Ok, Err, Some, None}
+use Rattle.std.specs.List.{position_or_len}
+use Rattle.verdict.specs.declared.Refusal.{Refusal}
+use Rattle.verdict.specs.declared.Refusal.TheVariants.{BadStationCount, BadInputBytes, TooManyTurns, BadTurn, ShortAnswer}
 use Rattle.method.specs.Demand.{Station}
 use Rattle.method.specs.First.{first_from}
-use Rattle.method.proofs.Firsts.{Passed, passed-more, passed-stop, passed-all, first_past, first-none}
-use Rattle.verdict.specs.Refusals.{number_of, is_bad, first_bad, tests}
+use Rattle.method.proofs.Firsts.{first_past, first-none}
+use Rattle.verdict.specs.Refusals.{is_bad, first_bad, tests}
 
--- ---- the number of a refusal with a place
+-- ---- the first turn that is no station, by a look along the turns
 
-pub number-bad : (v : Verdict) (at : ℕ) → v ≡ BadTurn at → 4 + 100 * at ≡ number_of v
-number-bad v at e = rw e
+along : (test : ℕ → Bool) (f : ℕ → Bool) (t : ℕ) (xs : List ℕ) → ((k : ℕ) → k < length xs → f (t + k) ≡ test (get_or xs k 0)) → first_from f t (length xs) ≡ t + position_or_len test xs
+unfolding first_from
+along test f t [] same = omega arith
+along test f t (x ∷ xs) same = go (test x) refl (along test f (suc t) xs (λ k h. let e : suc t + k ≡ t + suc k = omega arith in ap f e ∙ same (suc k) (omega arith)))
+  where
+    here : f t ≡ test x
+    here = let e : t ≡ t + 0 = omega arith in ap f e ∙ same 0 (omega arith)
 
-pub number-unwritten : (v : Verdict) (at : ℕ) → v ≡ UnwrittenLine at → 6 + 100 * at ≡ number_of v
-number-unwritten v at e = rw e
+    go : (b : Bool) → test x ≡ b → first_from f (suc t) (length xs) ≡ suc t + position_or_len test xs → first_from f t (suc (length xs)) ≡ t + position_or_len test (x ∷ xs)
+    go true e ih = rw (here, e, first_from) (omega arith)
+    go false e ih = rw (here, e, first_from) (omega arith)
 
--- ---- a turn that is no station
+pub first_found : (n : ℕ) (turns : List ℕ) → position_or_len (λ (x : ℕ). not (leb 1 x && leb x n)) turns ≡ first_bad n turns
+unfolding first_bad
+first_found n turns =
+    let found = along (λ (x : ℕ). not (leb 1 x && leb x n)) (is_bad n turns) 0 turns (λ k h. let e : 0 + k ≡ k = omega arith in ap (is_bad n turns) e) in
+    omega (arith, found)
 
-pub station-none : (n x : ℕ) → x ≡ 0 → false ≡ (leb 1 x && leb x n)
-station-none n x e = rw e
+met : (b : Bool) (at x : ℕ) → Some at ≡ cond b (Some x) None → (b ≡ true) × (at ≡ x)
+met true at x e = (refl, cc)
+met false at x e = absurd (cc)
 
-pub station-is : (n x : ℕ) → (x ≡ 0 → ⊥) → leb x n ≡ (leb 1 x && leb x n)
-station-is n x z = rw (le-leb 1 x (omega arith))
-
-module _ (n : ℕ) (turns : List ℕ) (t : ℕ) (p : Passed (is_bad n turns) (length turns) t) where
-  module _ (h : t < length turns) (b : Bool) (e : b ≡ (leb 1 (get_or turns t 0) && leb (get_or turns t 0) n)) where
-    pub bad-stops : b ≡ false → t ≡ first_bad n turns
-    unfolding first_bad
-    bad-stops f = sym (passed-stop (is_bad n turns) p h (ap not (sym e ∙ f)))
-
-    pub good-passes : b ≡ true → Passed (is_bad n turns) (length turns) (t + 1)
-    good-passes f = passed-more (is_bad n turns) p h (ap not (sym e ∙ f))
-
-  pub none-bad : length turns ≤ t → t ≡ first_bad n turns
-  unfolding first_bad
-  none-bad h = sym (passed-all (is_bad n turns) p h)
+missed : (b : Bool) (x : ℕ) → None ≡ cond b (Some x) None → b ≡ false
+missed true x e = absurd (cc)
+missed false x e = refl
 
 -- ---- the tests, by the one that decides
 
 module _ (n inputs : ℕ) (turns : List ℕ) (size : ℕ) where
-  pub no-stations : n ≡ 0 → BadStationCount ≡ tests n inputs turns size
+  pub wrong-count : false ≡ (leb 1 n && leb n 16) → Err BadStationCount ≡ tests n inputs turns size
   unfolding tests
-  no-stations e = rw e
+  wrong-count e = rw (← e)
 
-  pub many-stations : 16 < n → BadStationCount ≡ tests n inputs turns size
-  unfolding tests
-  many-stations h = rw (lt-leb n 16 h, and-false (leb 1 n))
-
-  module _ (low : n ≡ 0 → ⊥) (high : n ≤ 16) where
-    pub wrong-inputs : (inputs ≡ 8 * n → ⊥) → BadInputBytes ≡ tests n inputs turns size
+  module _ (count : true ≡ (leb 1 n && leb n 16)) where
+    pub wrong-inputs : (inputs ≡ 8 * n → ⊥) → Err BadInputBytes ≡ tests n inputs turns size
     unfolding tests
-    wrong-inputs e = rw (le-leb 1 n (omega arith), le-leb n 16 high, ne_eqb _ _ e)
+    wrong-inputs e = rw (← count, ne_eqb _ _ e)
 
     module _ (given : inputs ≡ 8 * n) where
-      pub many-turns : 4096 < length turns → TooManyTurns ≡ tests n inputs turns size
+      pub many-turns : 4096 < length turns → Err TooManyTurns ≡ tests n inputs turns size
       unfolding tests
-      many-turns h = rw (le-leb 1 n (omega arith), le-leb n 16 high, eq-eqb _ _ given, lt-leb _ _ h)
+      many-turns h = rw (← count, eq-eqb _ _ given, lt-leb _ _ h)
 
-      module _ (few : length turns ≤ 4096) (bad : ℕ) (found : bad ≡ first_bad n turns) where
-        pub bad-turn : bad < length turns → BadTurn bad ≡ tests n inputs turns size
+      module _ (few : length turns ≤ 4096) where
+        pub bad-turn : (at : ℕ) → Some at ≡ cond (ltb (first_bad n turns) (length turns)) (Some (first_bad n turns)) None → Err (BadTurn at) ≡ tests n inputs turns size
         unfolding tests
-        bad-turn h = rw (le-leb 1 n (omega arith), le-leb n 16 high, eq-eqb _ _ given, le-leb _ _ few, ← found, lt-ltb _ _ h)
+        bad-turn at found = let f = met _ _ _ found in rw (← count, eq-eqb _ _ given, le-leb _ _ few, f.0, f.1)
 
-        pub short-answer : length turns ≤ bad → size < 20 * n → ShortAnswer ≡ tests n inputs turns size
-        unfolding tests
-        short-answer h s = rw (le-leb 1 n (omega arith), le-leb n 16 high, eq-eqb _ _ given, le-leb _ _ few, ← found, le-ltb _ _ h, lt-leb _ _ s)
+        module _ (none : None ≡ cond (ltb (first_bad n turns) (length turns)) (Some (first_bad n turns)) None) where
+          pub short-answer : size < 20 * n → Err ShortAnswer ≡ tests n inputs turns size
+          unfolding tests
+          short-answer s = rw (← count, eq-eqb _ _ given, le-leb _ _ few, missed _ _ none, lt-leb _ _ s)
 
-        pub accepted : length turns ≤ bad → 20 * n ≤ size → Accepted ≡ tests n inputs turns size
-        unfolding tests
-        accepted h s = rw (le-leb 1 n (omega arith), le-leb n 16 high, eq-eqb _ _ given, le-leb _ _ few, ← found, le-ltb _ _ h, le-leb _ _ s)
+          pub accepted : 20 * n ≤ size → Ok tt ≡ tests n inputs turns size
+          unfolding tests
+          accepted s = rw (← count, eq-eqb _ _ given, le-leb _ _ few, missed _ _ none, le-leb _ _ s)
+
+pub ruleset decided = (wrong-count, wrong-inputs, many-turns, bad-turn, short-answer, accepted)
 
 -- ---- a call that passes them all
 
@@ -87,30 +87,26 @@ pub record Taken (n inputs : ℕ) (turns : List ℕ) (size : ℕ) : Type 0 where
   pub good : length turns ≤ first_bad n turns
   pub wide : 20 * n ≤ size
 
--- a refusal is not Accepted
-refused : (v : Verdict) → 1 ≤ number_of v → v ≡ Accepted → ⊥
-refused v f e = let z : number_of v ≡ 0 = ap number_of e in omega arith
+passes : (b : Bool) (x : Result (Unit {0}) Refusal) (r : Refusal) → cond b x (Err r) ≡ Ok tt → (b ≡ true) × (x ≡ Ok tt)
+passes true x r e = (refl, e)
+passes false x r e = absurd (cc)
 
-passes : (b : Bool) (x y : Verdict) → cond b x y ≡ Accepted → 1 ≤ number_of y → (b ≡ true) × (x ≡ Accepted)
-passes true x y e f = (refl, e)
-passes false x y e f = absurd (refused y f e)
-
-spared : (b : Bool) (x y : Verdict) → cond b x y ≡ Accepted → 1 ≤ number_of x → (b ≡ false) × (y ≡ Accepted)
-spared true x y e f = absurd (refused x f e)
-spared false x y e f = (refl, e)
+spared : (b : Bool) (y : Result (Unit {0}) Refusal) (r : Refusal) → cond b (Err r) y ≡ Ok tt → (b ≡ false) × (y ≡ Ok tt)
+spared true y r e = absurd (cc)
+spared false y r e = (refl, e)
 
 both : (a b : Bool) → (a && b) ≡ true → (a ≡ true) × (b ≡ true)
 both true b e = (refl, e)
 both false b e = absurd (false≢true e)
 
-pub taken : (n inputs : ℕ) (turns : List ℕ) (size : ℕ) → tests n inputs turns size ≡ Accepted → Taken n inputs turns size
+pub taken : (n inputs : ℕ) (turns : List ℕ) (size : ℕ) → tests n inputs turns size ≡ Ok tt → Taken n inputs turns size
 unfolding tests
 taken n inputs turns size e =
-    let one = passes _ _ BadStationCount e (omega arith) in
-    let two = passes _ _ BadInputBytes one.1 (omega arith) in
-    let three = passes _ _ TooManyTurns two.1 (omega arith) in
-    let four = spared _ (BadTurn (first_bad n turns)) _ three.1 (omega arith) in
-    let five = passes _ _ ShortAnswer four.1 (omega arith) in
+    let one = passes _ _ BadStationCount e in
+    let two = passes _ _ BadInputBytes one.1 in
+    let three = passes _ _ TooManyTurns two.1 in
+    let four = spared _ _ (BadTurn (first_bad n turns)) three.1 in
+    let five = passes _ _ ShortAnswer four.1 in
     let count = both _ _ one.0 in
     record {
       low = leb-true _ _ count.0;

@@ -1,15 +1,15 @@
 // What comes of a run call: a result, or the one refusal that is first in the table's order.
 #![tactic(auto)]
 
-ghost use Rattle.std.specs.Prelude.{◌≡◌};
+ghost use Rattle.std.specs.Prelude.{◌≡◌, Err};
 ghost use Rattle.verdict.specs.Refusals.{number_of};
 
 // The refusals before the first turn.
 pub mod tests;
 
-#[derive(Clone, Copy)]
-pub enum Verdict {
-    Accepted,
+// The rows of the table in MODEL 7. A turn is named by its place, counted from 0.
+#[derive(Clone, Copy, Debug, PartialEq, Eq)]
+pub enum Refusal {
     BadStationCount,
     BadInputBytes,
     TooManyTurns,
@@ -19,16 +19,17 @@ pub enum Verdict {
 }
 
 // The number that is returned for it: the refusal plus 100 times its place.
-pub fn number_of(verdict: Verdict) -> u32
-    ensures { result ≡ number_of verdict }
-{
-    match verdict {
-        Verdict::Accepted => 0,
-        Verdict::BadStationCount => 1,
-        Verdict::BadInputBytes => 2,
-        Verdict::TooManyTurns => 3,
-        Verdict::BadTurn { at } => 4 + 100 * (at as u32),
-        Verdict::ShortAnswer => 5,
-        Verdict::UnwrittenLine { at } => 6 + 100 * (at as u32),
+impl From<Refusal> for u32 {
+    ghost from_gives = { λ refusal number. number ≡ number_of (Err refusal) };
+
+    fn from(refusal: Refusal) -> u32 {
+        match refusal {
+            Refusal::BadStationCount => 1,
+            Refusal::BadInputBytes => 2,
+            Refusal::TooManyTurns => 3,
+            Refusal::BadTurn { at } => 4 + 100 * u32::from(at),
+            Refusal::ShortAnswer => 5,
+            Refusal::UnwrittenLine { at } => 6 + 100 * u32::from(at),
+        }
     }
 }

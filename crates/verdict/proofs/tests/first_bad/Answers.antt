@@ -1,20 +1,12 @@
-use native.Mathlib.Omega.{arith}
+-- The closure asks of each turn what the definition asks of it by its place.
 use borrow.Author.Rules.{rules}
-use Rattle.verdict.proofs.Judging.{bad-stops, good-passes, none-bad}
-use Rattle.method.proofs.Firsts.{passed_none}
+use Rattle.std.specs.Prelude.{ℕ, not, ◌&&◌, leb}
+use Rattle.std.proofs.lemmas.Iterator.{YieldsList-from_slice}
+use Rattle.std.proofs.lemmas.Iterator.Search.{position_from_yields_List}
+use Rattle.verdict.proofs.Judging.{first_found}
 use Rattle.verdict.proofs.tests.first_bad.Goals as goal
 
-pub loop-t-init : goal.loop-t-init
-loop-t-init c = passed_none _ _
-
-pub overflow_cast-turns : goal.overflow_cast-turns
-overflow_cast-turns c = omega (arith, c.type_inv.turns c.loop-t.t)
-
-pub returns-else-is_station : goal.returns-else-is_station
-returns-else-is_station c = search (bad-stops, rules)
-
-pub loop-t-preserved : goal.loop-t-preserved
-loop-t-preserved c = search (good-passes, rules)
-
 pub returns : goal.returns
-returns c = search (none-bad, rules)
+returns c =
+    rw (← first_found c.args.n c.args.turns.now)
+    (position_from_yields_List (λ (turn : ℕ). not (leb 1 turn && leb turn c.args.n)) _ _ c.position.result c.position.ensures.ran (YieldsList-from_slice _ c.iter.ensures.rest) (λ x b q k. search rules))
