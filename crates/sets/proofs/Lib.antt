@@ -1,4 +1,5 @@
 -- Laws that the crates above cite.
+pub mod Absent
 pub mod Members
 pub mod Spans
 pub mod Digits

@@ -8,6 +8,8 @@ use lib.Pow.{pow_pos, pow_mono}
 use mathlib.Core.Bool.{cond}
 use borrow.Author.Tests.{eq-eqb, ne_eqb, le-leb}
 use lib.Dec.{leb}
+use Rattle.std.specs.Int.{div_ceil}
+use Rattle.std.proofs.lemmas.Grind.{div_ceil_times}
 use Rattle.sets.specs.Arrays.{array_length, own_array, other_array, place}
 
 pub length-pos : (k : ℕ) → 0 < array_length k
@@ -33,7 +35,7 @@ round-up-alike : (i K L : ℕ) → i ≤ K → i ≤ L → 0 < K → 0 < L → (
 round-up-alike zero K L a b p q = round-up-none K p ∙ sym (round-up-none L q)
 round-up-alike (suc i) K L a b p q = round-up-one (suc i) K (omega arith) a ∙ sym (round-up-one (suc i) L (omega arith) b)
 
-pub own-capped : (k i : ℕ) → i < 256 → (i + min (array_length k) 256 - 1) / min (array_length k) 256 ≡ own_array k i
+own-capped : (k i : ℕ) → i < 256 → (i + min (array_length k) 256 - 1) / min (array_length k) 256 ≡ own_array k i
 unfolding own_array
 own-capped k i h = go (dec_lt 256 (array_length k))
   where
@@ -42,6 +44,18 @@ own-capped k i h = go (dec_lt 256 (array_length k))
         let m : min (array_length k) 256 ≡ 256 = omega arith in
         rw m (round-up-alike i 256 (array_length k) (omega arith) (omega arith) (omega arith) (length-pos k))
     go (no l) = let m : min (array_length k) 256 ≡ array_length k = omega arith in rw m
+
+-- a quotient rounded up, as the definition of the own array has it
+rounded-up : (a b : ℕ) → 0 < b → div_ceil a b ≡ (a + b - 1) / b
+rounded-up a b p =
+    let t = div_ceil_times a b p in
+    sym (div-eq_of_lt-le b (omega (arith, t)) (omega (arith, t, suc-mul (div_ceil a b) b)))
+
+pub own_rounded : (k i L : ℕ) → L ≡ min (array_length k) 256 → i < 256 → div_ceil i L ≡ own_array k i
+own_rounded k i L e h = rw e (rounded-up i (min (array_length k) 256) (omega (arith, length-pos k)) ∙ own-capped k i h)
+
+-- what the own array is, from the capped length
+pub ruleset rounding = (length-pos, own_rounded)
 
 -- an array's number is no larger than the station's
 pub own-low : (k i : ℕ) → own_array k i ≤ i
@@ -62,20 +76,17 @@ pub beside-even : (k i g : ℕ) → g ≡ own_array k i → (g % 2 ≡ 1 → ⊥
 unfolding other_array
 beside-even k i g e o = rw (← e, ne_eqb _ _ o)
 
-pub beside-none : (k i g : ℕ) → g ≡ own_array k i → g ≡ 0 → 0 ≡ other_array k i
-beside-none k i g e z = (omega arith) ∙ beside-even k i g e (omega arith)
-
 -- what the array beside one is, odd or even
-pub ruleset beside = (own-low, beside-odd, beside-even, beside-none)
+pub ruleset beside = (own-low, beside-odd, beside-even)
 
 -- the place of a register on a level that a board may have, from the capped length
-pub placed : (k c j L : ℕ) → L ≡ min (array_length k) 256 → k ≤ 8 → (c - 1) * L + j ≡ cond (leb k 8) (place k c j) 0
+pub placed : (k c j L : ℕ) → L ≡ min (array_length k) 256 → k ≤ 8 → (c - 1) * L + j ≡ place k c j
 unfolding place
 placed k c j L e h =
     let s : array_length k ≤ 128 = length-short k h in
     let x : L ≡ array_length k = omega arith in
-    rw (le-leb _ _ h, x)
+    rw x
 
 -- and it stays far within a word
-pub place-fits : (c L m : ℕ) → c ≤ 2 ^ 32 → L ≡ min m 256 → c * L ≤ 2 ^ 40
-place-fits c L m h e = mul-le-mul {n₁ = c} {m₁ = L} {n₂ = 2 ^ 32} {m₂ = 256} h (omega arith)
+pub place_fits : (c L m : ℕ) → c ≤ 2 ^ 32 → L ≡ min m 256 → c * L ≤ 2 ^ 40
+place_fits c L m h e = mul-le-mul {n₁ = c} {m₁ = L} {n₂ = 2 ^ 32} {m₂ = 256} h (omega arith)

@@ -1,12 +1,13 @@
 // Station or stock number i, counted from 1, is the binary digit 2^(i-1).
 ghost use Rattle.std.specs.Prelude.{◌≡◌};
+ghost use Rattle.sets.specs.Absent.{unless_zero};
 ghost use Rattle.sets.specs.Mask.{size, union, alone_in, member_after};
 
 // How many members the set has.
 pub fn size_of(s: u64) -> u32
     ensures { result ≡ size s }
 {
-    u64::count_ones(s)
+    s.count_ones()
 }
 
 // Those that are in one or in the other.
@@ -16,30 +17,24 @@ pub fn union_of(a: u64, b: u64) -> u64
     a | b
 }
 
-// The set of i alone; no set where i is not from 1 to 64.
+// The set of i alone; the empty set where i is not from 1 to 64.
 pub fn alone(i: u8) -> u64
     ensures { result ≡ alone_in 64 i }
 {
-    if i == 0 {
-        return 0;
+    match i {
+        1..=64 => 1 << (i - 1),
+        _ => 0,
     }
-    if 64 < i {
-        return 0;
-    }
-    1u64 << (i - 1)
 }
 
-// The next member above i, or 0 where there is none.
-pub fn member_after(s: u64, i: u8) -> u8
-    ensures { result ≡ member_after s i }
+// The next member above i.
+pub fn member_after(s: u64, i: u8) -> Option<u8>
+    ensures { result ≡ unless_zero (member_after s i) }
 {
-    if 64 <= i {
-        return 0;
-    }
-    let rest = s >> i;
+    let rest = s.checked_shr(u32::from(i))?;
     if rest == 0 {
-        return 0;
+        return None;
     }
-    let gap = u64::trailing_zeros(rest) as u8;
-    i + gap + 1
+    let gap = rest.trailing_zeros() as u8;
+    Some(i + gap + 1)
 }
