@@ -1,7 +1,8 @@
 -- A level's array length, counted no further than 256, serves as well as the length itself for every number below 256.
 use Prim.Native.Nat.{ℕ, zero, suc, ◌+◌, ◌-◌, ◌*◌, ◌/◌, ◌%◌, ◌^◌, ◌≤◌, ◌<◌, min}
 use mathlib.Core.Path.{◌≡◌, sym, ◌∙◌}
-use native.Mathlib.Nat.{div-eq_of_lt, div-eq_of_lt-le, div-lt_iff_lt-mul, le-mul_of_pos_right, suc-mul, mul-le-mul}
+use Rattle.std.specs.Prelude.{Some, None}
+use native.Mathlib.Nat.{mod-eq_of_lt, div-eq_of_lt, div-eq_of_lt-le, div-lt_iff_lt-mul, le-mul_of_pos_right, suc-mul, mul-le-mul}
 use native.Mathlib.Decide.{dec_lt}
 use native.Mathlib.Omega.{arith}
 use lib.Pow.{pow_pos, pow_mono}
@@ -23,6 +24,8 @@ length-short k h = pow_mono {i = k - 1} {j = 7} (omega arith)
 pub length-long : (k : ℕ) → 9 ≤ k → 256 ≤ array_length k
 unfolding array_length
 length-long k h = pow_mono {i = 8} {j = k - 1} (omega arith)
+
+pub ruleset lengths = (length-short, length-long, mod-eq_of_lt)
 
 -- rounding up by a length above i gives 0 of 0, else 1
 round-up-none : (L : ℕ) → 0 < L → (0 + L - 1) / L ≡ 0
@@ -80,12 +83,12 @@ beside-even k i g e o = rw (← e, ne_eqb _ _ o)
 pub ruleset beside = (own-low, beside-odd, beside-even)
 
 -- the place of a register on a level that a board may have, from the capped length
-pub placed : (k c j L : ℕ) → L ≡ min (array_length k) 256 → k ≤ 8 → (c - 1) * L + j ≡ place k c j
+pub placed : (k c j L : ℕ) → L ≡ min (array_length k) 256 → k ≤ 8 → Some ((c - 1) * L + j) ≡ cond (leb k 8) (Some (place k c j)) None
 unfolding place
 placed k c j L e h =
     let s : array_length k ≤ 128 = length-short k h in
     let x : L ≡ array_length k = omega arith in
-    rw x
+    rw (le-leb _ _ h, x)
 
 -- and it stays far within a word
 pub place_fits : (c L m : ℕ) → c ≤ 2 ^ 32 → L ≡ min m 256 → c * L ≤ 2 ^ 40

@@ -3,6 +3,7 @@ ghost use Rattle.std.specs.Prelude.{◌≡◌, ◌+◌, ◌-◌, ◌≤◌, min,
 ghost use Rattle.sets.specs.Arrays.{array_length, own_array, other_array, place};
 
 // The length of level k's arrays. No level from 9 on is on any board, and no station number passes 255, so 256 stands for more.
+#[tactic(auto, using(crate::proofs::Spans::lengths), unfolding(crate::specs::Arrays::array_length))]
 pub fn array_length(k: u8) -> u32
     ensures { result ≡ min (array_length k) 256 }
 {
@@ -35,6 +36,7 @@ pub fn other_array(k: u8, i: u8) -> u32
 }
 
 // Where register j of array c stands in the row of level k, from 1; nowhere on a level from 9 on, which is on no board.
+#[tactic(auto, using(crate::proofs::Spans::placed))]
 pub fn place_of(k: u8, c: u32, j: u32) -> Option<u64>
     ensures { result ≡ cond (leb k 8) (Some (place k c j)) None }
 {

@@ -28,6 +28,7 @@ pub fn alone(i: u8) -> u64
 }
 
 // The next member above i.
+#[tactic(auto, using(crate::proofs::Absent::after))]
 pub fn member_after(s: u64, i: u8) -> Option<u8>
     ensures { result ≡ unless_zero (member_after s i) }
 {
