@@ -1,5 +1,5 @@
 -- The window on the text: a part of it, the end that a scan finds, and the fields from a place on.
-use Rattle.std.specs.Prelude.{ℕ, ◌+◌, ◌-◌, Bool, cond, not, ◌&&◌, List, [], length, get_or, take, drop, leb, ltb, eqb}
+use Rattle.std.specs.Prelude.{ℕ, ◌≡◌, ◌+◌, ◌-◌, Bool, cond, not, ◌&&◌, List, [], length, get_or, take, drop, leb, ltb, eqb}
 use Rattle.text.specs.Text.{LF, tab, fields_of, run}
 
 -- the bytes from place a up to place e
@@ -12,6 +12,10 @@ no_tab b = not (eqb b tab)
 -- where the bytes that pass the test end, from place `at` on
 abbrev pub end_of : (ℕ → Bool) → List ℕ → ℕ → ℕ
 end_of pass text at = at + run pass (drop at text)
+
+-- what a test of bytes answers is what `pass` says
+abbrev pub Tests : (ℕ → Bool → Type 0) → (ℕ → Bool) → Type 0
+Tests answers pass = (b : ℕ) (t : Bool) → answers b t → t ≡ pass b
 
 -- the fields of the line up to `end` from place `at` on: none where `at` is past the end
 unfoldable pub fields_from : List ℕ → ℕ → ℕ → List (List ℕ)

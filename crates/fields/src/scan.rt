@@ -1,44 +1,23 @@
-// Scans over a slice from a place on.
-ghost use Rattle.std.specs.Prelude.{◌≡◌, ◌+◌, drop};
+// A scan over a slice from a place on.
+ghost use Rattle.std.specs.Prelude.{◌≡◌, ℕ, Bool};
 ghost use Rattle.text.specs.Text as Text;
-ghost use Rattle.text.specs.Text.{run};
-ghost use Rattle.fields.specs.Window.{no_tab};
+ghost use Rattle.fields.specs.Window as Window;
+ghost use Rattle.fields.specs.Window.{Tests};
 
-// Whether a line may hold the byte. Most are no tab and no control, so the lower bound is looked at first.
-fn fine(b: u8) -> bool
+// Whether a line may hold the byte.
+pub(super) fn fine(b: u8) -> bool
     ensures { result ≡ Text.fine b }
 {
-    if b < b' ' {
-        return b == b'\t';
-    }
-    b <= b'~'
+    matches!(b, b'\t' | b' '..=b'~')
 }
 
-// Where the bytes that a line may hold end, from `at` on: at the line's end, if the line holds no other.
-pub(super) fn line_end(text: &[u8], at: usize) -> usize
-    ensures { result ≡ at + run Text.fine (drop at text.now) }
+// Where the bytes that pass the test end, from `at` on.
+pub(super) fn end_of<F: Fn(u8) -> bool>(text: &[u8], at: usize, pass: F) -> usize
+    requires { F.IsAlwaysCallable pass }
+    ensures { (test : ℕ → Bool) → Tests (F.post pass) test → result ≡ Window.end_of test text.now at }
 {
-    let mut i = at;
-    while i < text.len() {
-        if fine(text[i]) {
-            i += 1;
-        } else {
-            return i;
-        }
-    }
-    i
-}
-
-// Where the field at `at` ends: at its tab, or at the line's end.
-pub(super) fn field_end(line: &[u8], at: usize) -> usize
-    ensures { result ≡ at + run no_tab (drop at line.now) }
-{
-    let mut i = at;
-    while i < line.len() {
-        if line[i] == b'\t' {
-            return i;
-        }
-        i += 1;
-    }
-    i
+    let Some(rest) = text.get(at..) else {
+        return at;
+    };
+    at + rest.iter().position(|b| !pass(*b)).unwrap_or(rest.len())
 }
