@@ -10,6 +10,7 @@ use native.Mathlib.Numerals.{add-one}
 use native.Mathlib.Omega.{arith}
 use borrow.Author.Tests.{ltb-true, eq-eqb}
 use lib.ListN.{length, get_or}
+use Rattle.std.specs.Prelude.{Some, is_some}
 use Rattle.sets.specs.Mask.{size}
 use Rattle.sets.proofs.Subset.{counted}
 use Rattle.sets.proofs.Blocks.{own_block, other_block, own-within, sibling-within}
@@ -41,14 +42,14 @@ board start order u d b p = register_of (after start order u) (suc d) (suc b) (s
 -- station e + 1 has posted its line by moment t
 pub record Posted (start : Run) (order : List ℕ) (n t e : ℕ) : Type 0 where
   pub within : e < n
-  pub line : (line_of (after start order t) (suc e)).written ≡ true
+  pub line : is_some (line_of (after start order t) (suc e)) ≡ true
   pub named : 1 ≤ times_named order t (suc e)
 
 -- what holds at moment t
 pub record Sound (l r n : ℕ) (inputs : List ℕ) (start : Run) (order : List ℕ) (t : ℕ) : Type 0 where
   pub shape : Shape l r n (length inputs) (after start order t)
   pub registers : BoardOk (board start order) (Posted start order n t) t
-  pub lines : (e : ℕ) → e < n → (line_of (after start order t) (suc e)).written ≡ true → (line_of (after start order t) (suc e)).stocks ≡ get_or inputs e 0
+  pub lines : (e : ℕ) → e < n → (s : ℕ) → line_of (after start order t) (suc e) ≡ Some s → s ≡ get_or inputs e 0
   pub rows : (e : ℕ) → e < n
       → RowOk (depth n) n inputs (board start order) (Posted start order n t) t e (row_of (after start order t) (suc e)).state
       (row_of (after start order t) (suc e)).count
@@ -87,7 +88,7 @@ module _ (l r n : ℕ) (inputs : List ℕ) (fits : Fits l r n inputs) (order : L
       record {
         shape = fresh-shape l r n inputs;
         registers = record { holds = λ d b p l' h. absurd (omega (arith, fresh-register l r n inputs (suc d) (suc b) (suc p))) };
-        lines = λ e h q. absurd (false≢true (sym (fresh-line l r n inputs (suc e)) ∙ q));
+        lines = λ e h s q. absurd (false≢true (ap is_some (sym (fresh-line l r n inputs (suc e)) ∙ q)));
         rows = λ e h. rw (fresh-row l r n inputs e) begins;
       }
 
@@ -166,7 +167,7 @@ module _ (l r n : ℕ) (inputs : List ℕ) (fits : Fits l r n inputs) (order : L
             (board-same y.0 ok, record { filled = λ f. absurd (true≢false (sym f ∙ w)); shown = λ f. z })
 
     -- what was right stays right where lines that are written stay so
-    module _ (keeps : (j : ℕ) → (line_of now (suc j)).written ≡ true → (line_of next (suc j)).written ≡ true) where
+    module _ (keeps : (j : ℕ) → is_some (line_of now (suc j)) ≡ true → is_some (line_of next (suc j)) ≡ true) where
       posted-later : (j : ℕ) → Posted start order n t j → P j
       posted-later j p = record { within = p.within; line = keeps j p.line; named = le_trans p.named (named_more order t (suc j)) }
 
@@ -185,11 +186,11 @@ module _ (l r n : ℕ) (inputs : List ℕ) (fits : Fits l r n inputs) (order : L
         record {
           shape = rw q sound.shape;
           registers = board-same (λ k c j. rw q) (board-now keeps);
-          lines = λ e h w. rw q (sound.lines e h (rw q at w));
+          lines = λ e h s w. sound.lines e h s (rw q at w);
           rows = λ e h. rw q (row_now keeps e h);
         }
       where
-        keeps : (j : ℕ) → (line_of now (suc j)).written ≡ true → (line_of next (suc j)).written ≡ true
+        keeps : (j : ℕ) → is_some (line_of now (suc j)) ≡ true → is_some (line_of next (suc j)) ≡ true
         keeps j w = rw q w
 
     block_in : {e d : ℕ} → e < n → d < depth n → e / 2 ^ d < 2 ^ (depth n - d)
@@ -204,7 +205,7 @@ module _ (l r n : ℕ) (inputs : List ℕ) (fits : Fits l r n inputs) (order : L
     effect {e = e} h names board reg lin begins posts =
         (board-same reg board, absorb-post (depth n) n inputs lasts few enough (suc t) e record { within = h; line = line; named = names })
       where
-        line : (line_of next (suc e)).written ≡ true
+        line : is_some (line_of next (suc e)) ≡ true
         line = rw (lin, line-put sound.shape (suc e) (written (get_or inputs e 0)) (omega arith) (omega (arith, fits.given)))
     effect {e = e} {v = v} h names board reg lin (unites {d = d} {own = own} {side = Own} {round = round} pair seen pend spent) a =
         let x = reached (own_block d e) pair.ours pair.within (block_in h pair.within) a reg board in
@@ -215,8 +216,8 @@ module _ (l r n : ℕ) (inputs : List ℕ) (fits : Fits l r n inputs) (order : L
         (x.0, absorb-other (depth n) n inputs lasts few enough (suc t) e pair x.0 round v seen pend spent x.1)
     effect {e = e} h names board reg lin (gathers {j = j} b s k g c) a =
         let x = line-read a in (
-          board-same (λ p q r. reg p q r ∙ ap (λ (y : Run). register_of y p q r) x.2) board,
-          absorb-line (depth n) n inputs lasts few enough (suc t) e j b s k g c (x.0 ∙ sound.lines j (few j (brought-posted b j k)) x.1),
+          board-same (λ p q r. reg p q r ∙ ap (λ (y : Run). register_of y p q r) x.1) board,
+          absorb-line (depth n) n inputs lasts few enough (suc t) e j b s k g c (sound.lines j (few j (brought-posted b j k)) _ x.0),
         )
     effect {e = e} {c = c} {v = v} {nx = nx} h names board reg lin (R.settled {S = S} {got = got} _ _ _ _) a = elim a [ ]
 
@@ -245,21 +246,22 @@ module _ (l r n : ℕ) (inputs : List ℕ) (fits : Fits l r n inputs) (order : L
       line_after : (j : ℕ) → LineAfter now (suc e) (next_op (suc e) (row_of now (suc e)).state) (suc j) (line_of next (suc j))
       line_after j = rw lin (acts-line sound.shape (omega arith) (omega (arith, fits.given)) (suc j) (omega arith) a)
 
-      line-keeps : (j : ℕ) → (line_of now (suc j)).written ≡ true → (line_of next (suc j)).written ≡ true
+      line-keeps : (j : ℕ) → is_some (line_of now (suc j)) ≡ true → is_some (line_of next (suc j)) ≡ true
       line-keeps j w = go (line_after j)
         where
-          go : LineAfter now (suc e) (next_op (suc e) (row_of now (suc e)).state) (suc j) (line_of next (suc j)) → (line_of next (suc j)).written ≡ true
+          go : LineAfter now (suc e) (next_op (suc e) (row_of now (suc e)).state) (suc j) (line_of next (suc j)) → is_some (line_of next (suc j)) ≡ true
           go (same q) = rw q w
           go (posted q s x) = rw x
 
-      line-right : (j : ℕ) → j < n → (line_of next (suc j)).written ≡ true → (line_of next (suc j)).stocks ≡ get_or inputs j 0
-      line-right j k w = go (line_after j)
+      line-right : (j : ℕ) → j < n → (s : ℕ) → line_of next (suc j) ≡ Some s → s ≡ get_or inputs j 0
+      line-right j k v w = go (line_after j)
         where
-          go : LineAfter now (suc e) (next_op (suc e) (row_of now (suc e)).state) (suc j) (line_of next (suc j)) → (line_of next (suc j)).stocks ≡ get_or inputs j 0
-          go (same q) = rw q (sound.lines j k (rw q at w))
+          go : LineAfter now (suc e) (next_op (suc e) (row_of now (suc e)).state) (suc j) (line_of next (suc j)) → v ≡ get_or inputs j 0
+          go (same q) = sound.lines j k v (rw q at w)
           go (posted {s = s} q x y) =
               let z : j ≡ e = omega arith in
-              rw (y, z) (begun-input (rw (post-begins (suc e) (row_of now (suc e)).state s q) at (sound.rows e h)))
+              let u : v ≡ s = cc in
+              rw (u, z) (begun-input (rw (post-begins (suc e) (row_of now (suc e)).state s q) at (sound.rows e h)))
 
       acted : Sound l r n inputs start order (suc t)
       acted =
@@ -294,17 +296,17 @@ module _ (l r n : ℕ) (inputs : List ℕ) (fits : Fits l r n inputs) (order : L
     sound-next = by_turn (get_or order t 0) (named-once order t) (turns now (get_or order t 0)) (after_turn start order t)
 
     -- no line is read that has not been written: who gathers has only stations in its set that have posted
-    never-missed : (i j : ℕ) → Station n i → next_op i (row_of now i).state ≡ ReadLine j → (line_of now j).written ≡ true
+    never-missed : (i j : ℕ) → Station n i → next_op i (row_of now i).state ≡ ReadLine j → is_some (line_of now j) ≡ true
     never-missed zero j st q = absurd (omega (arith, st.low))
     never-missed (suc e) j st q = go (read-gathers (suc e) (row_of now (suc e)).state j q) (sound.rows e st.high)
       where
-        go : {s : State} {c j : ℕ} → Gathers j s → RowOk (depth n) n inputs m (Posted start order n t) t e s c → (line_of now j).written ≡ true
+        go : {s : State} {c j : ℕ} → Gathers j s → RowOk (depth n) n inputs m (Posted start order n t) t e s c → is_some (line_of now j) ≡ true
         go gathering (gathers b s k g c) = (brought-posted b _ k).line
 
     unwritten-never : (i : ℕ) {op : Op} {x : Turned} → Station n i → next_op i (row_of now i).state ≡ op → Performs now i op x → x.did ≡ Unwritten → ⊥
     unwritten-never i st o (acts a) q = let z : ◌≡◌ {A = ℕ} 0 1 = cc in omega arith
     unwritten-never i st o idles q = let z : ◌≡◌ {A = ℕ} 0 1 = cc in omega arith
-    unwritten-never i st o (misses {j = j} f) q = false≢true (sym f ∙ never-missed i j st o)
+    unwritten-never i st o (misses {j = j} f) q = false≢true (ap is_some (sym f) ∙ never-missed i j st o)
 
     pub never-unwritten : (i : ℕ) → (turn now i).did ≡ Unwritten → ⊥
     never-unwritten i = go (turns now i)

@@ -1,6 +1,5 @@
 -- What the run record holds after one part of it was put anew. Nothing past this file looks into the record.
 use mathlib.Core.Path.{◌≡◌, refl, sym, ap, ◌∙◌}
-use mathlib.Core.Bool.{false}
 use mathlib.Core.List.{List}
 use mathlib.Core.Logic.{◌≢◌, ◌⊎◌, inl, inr}
 use Prim.Native.Nat.{ℕ, zero, suc, ◌+◌, ◌-◌, ◌*◌, ◌^◌, ◌≤◌, ◌<◌}
@@ -10,7 +9,7 @@ use lib.ListN.{length, get_or, set, replicate, length-set, length-map, length-re
 use lib.Seq.{get_or-set_same, get_or-set_other, set_out}
 use Rattle.sets.specs.Arrays.{place}
 use Rattle.sets.proofs.Blocks.{place-of-block, same_place, block_within}
-use Rattle.method.specs.declared.Line.{Line}
+use Rattle.std.specs.Prelude.{Option}
 use Rattle.method.specs.declared.Level.{Level}
 use Rattle.method.specs.declared.Row.{Row}
 use Rattle.method.specs.declared.Run.{Run}
@@ -58,9 +57,9 @@ module _ (l r n : ℕ) (inputs : List ℕ) where
   unfolding fresh_on level_of register_of
   fresh-register k c j = board-empty l r (k - 1) (place k c j - 1)
 
-  pub fresh-line : (j : ℕ) → (line_of (fresh_on l r n inputs) j).written ≡ false
+  pub fresh-line : (j : ℕ) → line_of (fresh_on l r n inputs) j ≡ unwritten
   unfolding fresh_on line_of
-  fresh-line j = ap (λ (x : Line). x.written) (get_or-map (λ (s : ℕ). unwritten) inputs (j - 1) 0)
+  fresh-line j = get_or-map (λ (s : ℕ). unwritten) inputs (j - 1) 0
 
   pub fresh-row : (e : ℕ) → row_of (fresh_on l r n inputs) (suc e) ≡ not_begun (get_or inputs e 0)
   unfolding fresh_on row_of
@@ -129,11 +128,11 @@ module _ {l r n w : ℕ} {run : Run} (shape : Shape l r n w run) where
 
   -- ---- a line put anew
 
-  pub line-put : (i : ℕ) (x : Line) → 1 ≤ i → i ≤ w → line_of (with_line run i x) i ≡ x
+  pub line-put : (i : ℕ) (x : Option ℕ) → 1 ≤ i → i ≤ w → line_of (with_line run i x) i ≡ x
   unfolding line_of with_line
   line-put i x p h = get_or-set_same run.lines (i - 1) x unwritten (omega (arith, shape.lines))
 
-  pub line-shape : (i : ℕ) (x : Line) → Shape l r n w (with_line run i x)
+  pub line-shape : (i : ℕ) (x : Option ℕ) → Shape l r n w (with_line run i x)
   unfolding with_line level_of
   line-shape i x =
       record {
@@ -176,7 +175,7 @@ pub row_kept : (run : Run) (i j : ℕ) (x : Row) → 1 ≤ i → 1 ≤ j → j �
 unfolding row_of with_row
 row_kept run i j x p q h = get_or-set_other run.rows (i - 1) (j - 1) x (not_begun 0) (λ e. h (omega arith))
 
-pub line_kept : (run : Run) (i j : ℕ) (x : Line) → 1 ≤ i → 1 ≤ j → j ≢ i → line_of (with_line run i x) j ≡ line_of run j
+pub line_kept : (run : Run) (i j : ℕ) (x : Option ℕ) → 1 ≤ i → 1 ≤ j → j ≢ i → line_of (with_line run i x) j ≡ line_of run j
 unfolding line_of with_line
 line_kept run i j x p q h = get_or-set_other run.lines (i - 1) (j - 1) x unwritten (λ e. h (omega arith))
 

@@ -11,7 +11,7 @@ use lib.Dec.{leb}
 use lib.ListN.{length}
 use Rattle.sets.specs.Mask.{size}
 use Rattle.sets.proofs.Subset.{counted}
-use Rattle.method.specs.declared.Line.{Line}
+use Rattle.std.specs.Prelude.{Option, None, Some}
 use Rattle.method.specs.declared.Reading.{Reading}
 use Rattle.method.specs.declared.Side.TheVariants.{Own, Other}
 use Rattle.method.specs.declared.State.{State}
@@ -32,29 +32,29 @@ pub data Acts (run : Run) (i : ℕ) : Op → ℕ → Run → Type 0 where
   posts : {s : ℕ} → Acts run i (Post s) 0 (with_line run i (written s))
   writes : {k c j v : ℕ} → Acts run i (Write k c j v) 0 (with_register run k c j v)
   reads : {k c j : ℕ} → Acts run i (Read k c j) (register_of run k c j) run
-  reads_line : {j : ℕ} → (line_of run j).written ≡ true → Acts run i (ReadLine j) (line_of run j).stocks run
+  reads_line : {j s : ℕ} → line_of run j ≡ Some s → Acts run i (ReadLine j) s run
 
 -- what a read of a line found
 pub line-read : {run : Run} {i j v : ℕ} {next : Run} → Acts run i (ReadLine j) v next
-    → (v ≡ (line_of run j).stocks) × ((line_of run j).written ≡ true) × (next ≡ run)
-line-read (reads_line q) = (refl, q, refl)
+    → (line_of run j ≡ Some v) × (next ≡ run)
+line-read (reads_line q) = (q, refl)
 
 -- what an operation comes to
 pub data Performs (run : Run) (i : ℕ) : Op → Turned → Type 0 where
   acts : {op : Op} {v : ℕ} {next : Run} → Acts run i op v next → Performs run i op (turned (goes_on next i v) Operation)
   idles : Performs run i Rest (turned run Idle)
-  misses : {j : ℕ} → (line_of run j).written ≡ false → Performs run i (ReadLine j) (turned run Unwritten)
+  misses : {j : ℕ} → line_of run j ≡ None → Performs run i (ReadLine j) (turned run Unwritten)
 
 performs : (run : Run) (i : ℕ) (op : Op) → Performs run i op (perform run i op)
 unfolding perform
 performs run i (Post s) = acts posts
 performs run i (Write k c j v) = acts writes
 performs run i (Read k c j) = acts reads
-performs run i (ReadLine j) = go (line_of run j).written refl
+performs run i (ReadLine j) = go (line_of run j) refl
   where
-    go : (w : Bool) → (line_of run j).written ≡ w → Performs run i (ReadLine j) (read_line run i (line_of run j) w)
-    go true q = acts (reads_line q)
-    go false q = misses q
+    go : (l : Option ℕ) → line_of run j ≡ l → Performs run i (ReadLine j) (read_line run i l)
+    go (Some s) q = acts (reads_line q)
+    go None q = misses q
 performs run i Rest = idles
 
 -- what a turn comes to
@@ -159,7 +159,7 @@ turn-stays run i k c j h = go (turns run i)
 
 -- ---- a line is as it was, or a station that has not begun posts it
 
-pub data LineAfter (run : Run) (i : ℕ) (op : Op) (j : ℕ) (x : Line) : Type 0 where
+pub data LineAfter (run : Run) (i : ℕ) (op : Op) (j : ℕ) (x : Option ℕ) : Type 0 where
   same : x ≡ line_of run j → LineAfter run i op j x
   posted : {s : ℕ} → op ≡ Post s → j ≡ i → x ≡ written s → LineAfter run i op j x
 

@@ -1,8 +1,7 @@
 -- The board and the run record: MODEL 1 and 2. "Stations, levels, arrays and registers are counted from 1".
-use Rattle.std.specs.Prelude.{ℕ, zero, suc, ◌-◌, ◌^◌, true, false, List, map, leb, get_or, set, replicate}
+use Rattle.std.specs.Prelude.{ℕ, zero, suc, ◌-◌, ◌^◌, true, false, Option, None, Some, List, map, leb, get_or, set, replicate}
 use Rattle.sets.specs.Limits.{most_stations}
 use Rattle.sets.specs.Arrays.{place}
-use Rattle.method.specs.declared.Line.{Line}
 use Rattle.method.specs.declared.Level.{Level}
 use Rattle.method.specs.declared.State.{State}
 use Rattle.method.specs.declared.State.TheVariants.{NotBegun}
@@ -25,11 +24,11 @@ unfoldable pub depth : ℕ → ℕ
 depth n = depth_from n 0 n
 
 -- a posting line that has been written with these stocks, and one that has not
-abbrev pub written : ℕ → Line
-written s = record { stocks = s; written = true }
+abbrev pub written : ℕ → Option ℕ
+written s = Some s
 
-abbrev pub unwritten : Line
-unwritten = record { stocks = 0; written = false }
+abbrev pub unwritten : Option ℕ
+unwritten = None
 
 -- a row of r registers, "all are empty at first"
 abbrev pub empty_level : ℕ → Level
@@ -61,7 +60,7 @@ fresh n inputs = fresh_on levels registers n inputs
 unfoldable pub row_of : Run → ℕ → Row
 row_of run i = get_or run.rows (i - 1) (not_begun 0)
 
-unfoldable pub line_of : Run → ℕ → Line
+unfoldable pub line_of : Run → ℕ → Option ℕ
 line_of run j = get_or run.lines (j - 1) unwritten
 
 unfoldable pub level_of : Run → ℕ → Level
@@ -74,7 +73,7 @@ register_of run k c j = get_or (level_of run k).sets (place k c j - 1) 0
 unfoldable pub with_row : Run → ℕ → Row → Run
 with_row run i r = record { stations = run.stations; depth = run.depth; board = run.board; lines = run.lines; rows = set run.rows (i - 1) r }
 
-unfoldable pub with_line : Run → ℕ → Line → Run
+unfoldable pub with_line : Run → ℕ → Option ℕ → Run
 with_line run j l = record { stations = run.stations; depth = run.depth; board = run.board; lines = set run.lines (j - 1) l; rows = run.rows }
 
 unfoldable pub with_register : Run → ℕ → ℕ → ℕ → ℕ → Run

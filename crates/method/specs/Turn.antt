@@ -1,6 +1,5 @@
 -- A turn and a run: MODEL 6. "A turn names a station, which makes its next operation".
-use Rattle.std.specs.Prelude.{ℕ, zero, suc, ◌+◌, Bool, true, false, cond, ◌&&◌, List, leb, length, get_or}
-use Rattle.method.specs.declared.Line.{Line}
+use Rattle.std.specs.Prelude.{ℕ, zero, suc, ◌+◌, Bool, cond, ◌&&◌, Option, None, Some, List, leb, length, get_or}
 use Rattle.method.specs.declared.Op.{Op}
 use Rattle.method.specs.declared.Op.TheVariants.{Post, Write, Read, ReadLine, Rest}
 use Rattle.method.specs.declared.Run.{Run}
@@ -18,16 +17,16 @@ unfoldable pub goes_on : Run → ℕ → ℕ → Run
 goes_on run i v = with_row run i (row (absorb run.depth i (row_of run i).state v) ((row_of run i).count + 1))
 
 -- a line is read only if it has been written; an empty one that was written is as good as any
-abbrev pub read_line : Run → ℕ → Line → Bool → Turned
-read_line run i l true = turned (goes_on run i l.stocks) Operation
-read_line run i l false = turned run Unwritten
+abbrev pub read_line : Run → ℕ → Option ℕ → Turned
+read_line run i (Some stocks) = turned (goes_on run i stocks) Operation
+read_line run i None = turned run Unwritten
 
 -- the operation is made on the board, and what it brings goes to station i: "A settled station is idle: its turn changes nothing."
 unfoldable pub perform : Run → ℕ → Op → Turned
 perform run i (Post stocks) = turned (goes_on (with_line run i (written stocks)) i 0) Operation
 perform run i (Write k c j v) = turned (goes_on (with_register run k c j v) i 0) Operation
 perform run i (Read k c j) = turned (goes_on run i (register_of run k c j)) Operation
-perform run i (ReadLine j) = read_line run i (line_of run j) (line_of run j).written
+perform run i (ReadLine j) = read_line run i (line_of run j)
 perform run i Rest = turned run Idle
 
 -- a station of the run, with a row on the record

@@ -4,13 +4,6 @@
 
 use sets::limits::{LEVELS, STATIONS};
 
-// A posting line X: a set of stocks, and whether it has been written, since an empty set may be posted.
-#[derive(Clone, Copy)]
-pub struct Line {
-    pub stocks: u64,
-    pub written: bool,
-}
-
 // A level of the board: a row of 16 registers that hold sets of stations.
 #[derive(Clone, Copy)]
 pub struct Level {
@@ -93,13 +86,14 @@ pub enum Op {
     Rest,
 }
 
-// The run record: the station count n, the number of levels N, the board, the posting lines and the stations' rows.
+// The run record: the station count n, the number of levels N, the board, the posting lines and the stations' rows. A posting line X is the set of
+// stocks that was written to it, which may be empty, or `None` before it is written.
 #[derive(Drop)]
 pub struct Run {
     pub stations: u8,
     pub depth: u8,
     pub board: [Level; LEVELS],
-    pub lines: [Line; STATIONS],
+    pub lines: [Option<u64>; STATIONS],
     pub rows: [Row; STATIONS],
 }
 
