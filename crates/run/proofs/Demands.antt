@@ -14,8 +14,8 @@ use Rattle.method.specs.Board.{fresh, row_of, not_begun}
 use Rattle.method.specs.Turn.{after}
 use Rattle.method.specs.Demand.{Fits, Station, SettledOn, input_of, gathered, times_named, turns_unsettled, idle_turns, counts_of, most_operations}
 use Rattle.method.proofs.Moments.{always-sound}
-use Rattle.verdict.specs.declared.Verdict.{Verdict}
-use Rattle.verdict.specs.declared.Verdict.TheVariants.{Accepted, BadStationCount, BadInputBytes, TooManyTurns, BadTurn, ShortAnswer, UnwrittenLine}
+use Rattle.std.specs.Prelude.{Result, Ok, Err}
+use Rattle.verdict.specs.declared.Refusal.{Refusal}
 use Rattle.run.specs.Inputs.{inputs_in}
 use Rattle.answer.specs.Answer.{row_bytes, answer_bytes}
 use Rattle.verdict.specs.Refusals.{tests}
@@ -26,14 +26,9 @@ use Rattle.answer.proofs.Laid.{row-length}
 use Rattle.method.proofs.Demand3 as D
 
 -- a call is accepted only where the tests accept it
-passed : (run : Run) (turns : List ℕ) (v : Verdict) → played_out run turns v ≡ Accepted → v ≡ Accepted
-passed run turns Accepted e = refl
-passed run turns BadStationCount e = e
-passed run turns BadInputBytes e = e
-passed run turns TooManyTurns e = e
-passed run turns (BadTurn at) e = e
-passed run turns ShortAnswer e = e
-passed run turns (UnwrittenLine at) e = e
+passed : (run : Run) (turns : List ℕ) (v : Result (Unit {0}) Refusal) → played_out run turns v ≡ Ok tt → v ≡ Ok tt
+passed run turns (Ok made) e = refl
+passed run turns (Err refusal) e = e
 
 -- twenty bytes from place 20(i-1) on are station i's
 row-there : (e : ℕ) (n : ℕ) (rows : List Row) (rest : List ℕ) (d : Row) → e < n → e < length rows → take 20 (drop (20 * e) (answer_bytes n rows ++ rest)) ≡ row_bytes (get_or rows e d)
@@ -47,12 +42,12 @@ row-there (suc e) (suc n) (r ∷ rows) rest d h k =
     let z : 20 * suc e ≡ length (row_bytes r) + 20 * e = omega (arith, row-length r) in
     rw (append_assoc, z, drop-append-add (row_bytes r) (answer_bytes n rows ++ rest) (20 * e)) (row-there e n rows rest d (omega arith) (omega arith))
 
-module _ (n : ℕ) (inputs turns answer : List ℕ) (accepted : verdict_of n inputs turns answer ≡ Accepted) where
+module _ (n : ℕ) (inputs turns answer : List ℕ) (accepted : verdict_of n inputs turns answer ≡ Ok tt) where
   -- the run record when the call returns
   abbrev end : Run
   end = after (begun n inputs) turns (length turns)
 
-  tested : tests n (length inputs) turns (length answer) ≡ Accepted
+  tested : tests n (length inputs) turns (length answer) ≡ Ok tt
   unfolding verdict_of
   tested = passed (begun n inputs) turns _ accepted
 

@@ -1,46 +1,48 @@
 -- Little-endian numbers, read from a list of bytes.
-use Prim.Native.Nat.{ℕ, zero, suc, ◌+◌, ◌-◌, ◌*◌, ◌^◌, ◌≤◌, ◌<◌}
+use Prim.Native.Nat.{ℕ, zero, suc, ◌+◌, ◌*◌, ◌≤◌, ◌<◌}
 use mathlib.Core.Path.{◌≡◌, refl, sym, ap, ◌∙◌}
-use mathlib.Core.List.{List, ◌∷◌}
-use native.Mathlib.Nat.{add-zero, lt_of_lt_of_le, pow-succ', pow-le-pow_right}
+use mathlib.Core.List.{List, [], ◌∷◌}
 use native.Mathlib.Decide.{dec_lt}
 use native.Mathlib.Omega.{arith}
 use borrow.Author.Count.{below_more}
 use lib.ListN.{length, get_or, take, drop, set, length-set, drop_of_length-le, replicate}
-use lib.Seq.{drop-cons, drop-drop, ext_get_or, get_or-set_same, get_or-set_other}
+use lib.Seq.{drop-drop, ext_get_or, get_or-set_same, get_or-set_other}
+use Rattle.std.proofs.lemmas.List.{length-take}
+use Rattle.std.specs.Int.{w64, from_le_bytes}
+use Rattle.std.specs.Simd.{first_chunks}
 use Rattle.run.specs.Inputs.{number_in, inputs_in}
 
 -- ---- a number out of eight bytes
 
--- x is the number in the last of the eight bytes from `at`, without the first `left`
-pub record Numbered (l : List ℕ) (at left x : ℕ) : Type 0 where
-  pub low : left ≤ 8
-  pub is : x ≡ number_in (take (8 - left) (drop (at + left) l))
-  pub small : x < 256 ^ (8 - left)
-
-pub numbered-none : (l : List ℕ) (at : ℕ) → Numbered l at 8 0
+number-opened : (l : List ℕ) (i : ℕ) → number_in (drop i l) ≡ get_or l i 0 + 256 * number_in (drop (suc i) l)
 unfolding number_in
-numbered-none l at = record { low = omega arith; is = refl; small = omega arith }
+number-opened [] zero = refl
+number-opened (x ∷ xs) zero = refl
+number-opened [] (suc i) = refl
+number-opened (x ∷ xs) (suc i) = number-opened xs i
 
--- seven bytes at most
-pub numbered-room : {l : List ℕ} {at left x : ℕ} → Numbered l at left x → 0 < left → x < 72057594037927936
-numbered-room {l} {at} {left} {x} p h = lt_of_lt_of_le p.small (pow-le-pow_right {n = 256} (omega arith) {i = 8 - left} {j = 7} (omega arith))
-
-pub numbered_more : {l : List ℕ} {at left x : ℕ} (b : ℕ) → at + 8 ≤ length l → Numbered l at left x → 0 < left → b ≡ get_or l (at + (left - 1)) 0 → b < 256
-    → Numbered l at (left - 1) (256 * x + b)
+-- it is the library's
+eight_in : (l : List ℕ) → length l ≤ 8 → from_le_bytes w64 l ≡ number_in l
 unfolding number_in
-numbered_more {l} {at} {left} {x} b room p h e s =
-    let low = p.low in
-    let small = p.small in
-    let more : 8 - (left - 1) ≡ suc (8 - left) = omega arith in
-    let next : at + left ≡ suc (at + (left - 1)) = omega arith in
-    let here : drop (at + (left - 1)) l ≡ get_or l (at + (left - 1)) 0 ∷ drop (suc (at + (left - 1))) l = drop-cons l (at + (left - 1)) 0 (omega arith) in
-    record { low = omega arith; is = rw (more, here, ← next, ← p.is, ← e) (omega arith); small = rw (more, pow-succ') (omega arith) }
+eight_in l h =
+    let none : number_in (drop 8 l) ≡ 0 = rw (drop_of_length-le l {i = 8} h) in
+    let o = number-opened l in
+    omega (arith, none, o 0, o 1, o 2, o 3, o 4, o 5, o 6, o 7)
 
-pub numbered-all : {l : List ℕ} {at left x : ℕ} → Numbered l at left x → left ≤ 0 → x ≡ number_in (take 8 (drop at l))
-numbered-all {l} {at} {left} {x} p h =
-    let none : left ≡ 0 = omega arith in
-    p.is ∙ rw (none, add-zero)
+-- a chunk is the bytes of an input
+chunk-at : (m : ℕ) (bytes : List ℕ) (i : ℕ) (d : List ℕ) → i < m → get_or (first_chunks 8 m bytes) i d ≡ take 8 (drop (8 * i) bytes)
+chunk-at zero bytes i d h = absurd (omega arith)
+chunk-at (suc m) bytes zero d h = refl
+chunk-at (suc m) bytes (suc i) d h =
+    let e : 8 + 8 * i ≡ 8 * suc i = omega arith in
+    chunk-at m (drop 8 bytes) i d (omega arith) ∙ ap (λ (l : List ℕ). take 8 l) (drop-drop (8 * i) 8 bytes ∙ ap (λ (x : ℕ). drop x bytes) e)
+
+-- the number in a chunk is an input's
+pub chunk_is : (bytes : List ℕ) (m i v : ℕ) (d word : List ℕ) → i < m → word ≡ get_or (first_chunks 8 m bytes) i d → v ≡ from_le_bytes w64 word → v ≡ number_in (take 8 (drop (8 * i) bytes))
+chunk_is bytes m i v d word h e f =
+    let is : word ≡ take 8 (drop (8 * i) bytes) = e ∙ chunk-at m bytes i d h in
+    let short : length word ≤ 8 = rw (is, length-take {A = ℕ}) (omega arith) in
+    f ∙ eight_in word short ∙ ap number_in is
 
 -- ---- the inputs
 

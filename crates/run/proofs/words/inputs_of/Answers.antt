@@ -1,17 +1,16 @@
-use mathlib.Core.Path.{◌≡◌}
-use native.Mathlib.Omega.{arith}
-use Rattle.run.proofs.Little.{none_read, one-read, all_read}
+-- Chunk after chunk, the inputs that the definition has.
+use Rattle.std.proofs.Common.{◌≡◌, ◌/◌, ◌<◌, List, ℕ, ap, length, get_or, arith}
+use Rattle.run.proofs.Little.{one-read, all_read, chunk_is}
 use Rattle.run.proofs.words.inputs_of.Goals as goal
 
-pub loop-i-init : goal.loop-i-init
-loop-i-init c = (omega arith, none_read _)
-
 pub loop-i-preserved : goal.loop-i-preserved
-loop-i-preserved c = (omega arith, one-read _ _ _ _ c.loop-i.invariant.1 (omega arith) c.word_at.ensures)
+loop-i-preserved c =
+    let here : c.loop-i.i < length c.args.bytes.now / 8 = omega (arith, c.as_chunks.ensures.front_len) in
+    let in_sixteen : c.loop-i.i < 16 = omega arith in
+    one-read _ _ _ _ c.loop-i.invariant in_sixteen
+    (chunk_is c.args.bytes.now (length c.args.bytes.now / 8) c.loop-i.i c.from_le_bytes.result _ _ here (ap (λ (l : List (List ℕ)). get_or l c.loop-i.i _) c.as_chunks.ensures.front) c.from_le_bytes.ensures)
 
 pub returns : goal.returns
 returns c =
-    let l = c.loop-i in
-    let a = c.args in
-    let full : l.i ≡ a.n = omega (arith, l.invariant.0) in
-    all_read _ _ a.n c.requires.1 (rw full at l.invariant.1)
+    let full : c.loop-i.i ≡ c.args.n = omega (arith, c.as_chunks.ensures.front_len) in
+    all_read _ _ c.args.n c.requires.whole (rw full at c.loop-i.invariant)
