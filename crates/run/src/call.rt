@@ -10,7 +10,7 @@ use verdict::Refusal;
 use verdict::tests::tested;
 
 // n stations with their inputs, 8 bytes each, and an order of turns, a byte each; the answer takes 20 bytes a station.
-// It is run, and the answer is written after the last turn. A refusal leaves the answer untouched.
+// The order is run, and the answer is written after the last turn. A refusal leaves the answer untouched.
 #[tactic(auto, using(crate::proofs::Agree::outcomes))]
 pub fn run_call(n: u64, inputs: &[u8], turns: &[u8], answer: &mut [u8]) -> Result<(), Refusal>
     ensures verdict { result ≡ verdict_of n inputs.now turns.now answer.old }
