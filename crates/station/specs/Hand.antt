@@ -1,33 +1,45 @@
--- The reading in hand: of its two arrays a union reads one at a time.
-use Rattle.std.specs.Prelude.{ℕ, Bool, true, false, cond, not, ◌&&◌, eqb}
+-- A union by the reading in hand: of its two arrays it reads one at a time.
+use Rattle.std.specs.Prelude.{ℕ}
+use Rattle.sets.specs.Mask.{union}
 use Rattle.method.specs.declared.Reading.{Reading}
-use Rattle.method.specs.declared.Round.{Round}
 use Rattle.method.specs.declared.Side.{Side}
 use Rattle.method.specs.declared.Side.TheVariants.{Own, Other}
+use Rattle.method.specs.declared.Round.{Round}
 use Rattle.method.specs.declared.State.{State}
-use Rattle.method.specs.Steps.{writing, pending, wrote, found, changed, round_over, read_other, absorb_own, absorb_other}
-use Rattle.station.specs.declared.uniting.Moved.{Moved}
+use Rattle.method.specs.declared.State.TheVariants.{Uniting}
+use Rattle.method.specs.Steps.{climb, round_over, read_other, read_own, absorb_own, absorb_other}
+use Rattle.station.specs.declared.uniting.Union.{Union}
 
 -- what belongs to the side: the first to the own array, the second to the other
 abbrev pub of : {A : Type 0} → Side → A → A → A
 of Own a b = a
 of Other a b = b
 
-abbrev pub moved_to : Reading → Round → Bool → Moved
-moved_to r round over = record { reading = r; round = round; over = over }
+-- the state of a station that is at the union
+abbrev pub state_of : Union → State
+state_of u = Uniting u.level u.own u.other u.side u.round
 
--- the reading in hand after its operation: over where an empty register was read
-unfoldable pub brought : Reading → Round → ℕ → Moved
-brought r round v = cond (writing r) (moved_to (wrote r) round false) (cond (eqb v 0) (moved_to r round true) (moved_to (found r v) (changed round) false))
+abbrev pub in_hand : Union → Reading
+in_hand u = of u.side u.own u.other
 
--- it has an operation left
-abbrev pub goes_on : ℕ → Moved → Bool
-goes_on k b = not b.over && pending k b.reading
+abbrev pub with_reading : Union → Reading → Union
+with_reading u r = record { level = u.level; own = of u.side r u.own; other = of u.side u.other r; side = u.side; round = u.round }
+
+abbrev pub with_round : Union → Round → Union
+with_round u round = record { level = u.level; own = u.own; other = u.other; side = u.side; round = round }
+
+-- own and other are together what the level gave
+abbrev pub agreed : ℕ → Union → State
+agreed N u = climb N u.level (union u.own.set u.other.set)
 
 -- the reading in hand is over: after the own array the other is read, and after the other the round is over
-abbrev pub reading_over : ℕ → ℕ → Reading → Reading → Side → Round → State
-reading_over N k own other side round = of side (read_other N k own other round) (round_over N k own other round)
+abbrev pub reading_over : ℕ → Union → State
+reading_over N u = of u.side (read_other N u.level u.own u.other u.round) (round_over N u.level u.own u.other u.round)
+
+-- the reading in hand goes on
+abbrev pub read_on : ℕ → Union → State
+read_on N u = of u.side (read_own N u.level u.own u.other u.round) (read_other N u.level u.own u.other u.round)
 
 -- what an operation of the union brought, on either side
-abbrev pub absorb_union : ℕ → ℕ → Reading → Reading → Side → Round → ℕ → State
-absorb_union N k own other side round v = of side (absorb_own N k own other round v) (absorb_other N k own other round v)
+abbrev pub absorb_union : ℕ → Union → ℕ → State
+absorb_union N u v = of u.side (absorb_own N u.level u.own u.other u.round v) (absorb_other N u.level u.own u.other u.round v)

@@ -1,48 +1,11 @@
-// The union at level k of n: own and other are read until two readings of both agree.
-ghost use Rattle.std.specs.Prelude.{◌≡◌, false};
-ghost use Rattle.sets.specs.Arrays.{own_array, other_array};
-ghost use Rattle.method.specs.Steps.{pending, again, round_over, changed, found};
-ghost use Rattle.station.specs.Hand.{of, brought, goes_on, reading_over, absorb_union};
+// The union over two arrays: own and other are read until two readings of both agree.
+ghost use Rattle.std.specs.Prelude.{◌≡◌};
+ghost use Rattle.method.specs.Steps.{again, round_over, read_other, read_own, changed, next_op};
 
-use super::reading::{is_pending, is_writing};
+use super::reading::{found, is_pending, is_writing, reach, wrote};
 use climbing::climbed;
-use method::{Reading, Round, Side, State};
-
-fn at(k: u8, own: Reading, other: Reading, side: Side, round: Round) -> State
-    ensures { result ≡ State.Uniting k own other side round }
-{
-    State::Uniting {
-        level: k,
-        own: own,
-        other: other,
-        side: side,
-        round: round,
-    }
-}
-
-// Own and other are read again.
-pub fn read_again(n: u8, k: u8, own: Reading, other: Reading) -> State
-    ensures { result ≡ again n k own other }
-{
-    if is_pending(k, own) {
-        return at(k, own, other, Side::Own, Round::Unchanged);
-    }
-    if is_pending(k, other) {
-        return at(k, own, other, Side::Other, Round::Unchanged);
-    }
-    climbed(n, k, sets::mask::union_of(own.set, other.set))
-}
-
-// Own and other have been read in this round.
-pub fn round_over(n: u8, k: u8, own: Reading, other: Reading, round: Round) -> State
-    ensures { result ≡ round_over n k own other round }
-{
-    match round {
-        Round::First => read_again(n, k, own, other),
-        Round::Unchanged => climbed(n, k, sets::mask::union_of(own.set, other.set)),
-        Round::Changed => read_again(n, k, own, other),
-    }
-}
+use method::{Op, Reading, Round, Side, State};
+use sets::{arrays, mask};
 
 // The round in which something was found.
 fn changed_round(round: Round) -> Round
@@ -50,132 +13,169 @@ fn changed_round(round: Round) -> Round
 {
     match round {
         Round::First => Round::First,
-        Round::Unchanged => Round::Changed,
-        Round::Changed => Round::Changed,
+        Round::Unchanged | Round::Changed => Round::Changed,
     }
 }
 
-// The reading after T was read.
-fn found_set(r: Reading, t: u64) -> Reading
-    ensures { result ≡ found r t }
-{
-    Reading {
-        set: t,
-        known: sets::mask::size_of(r.set) + 1,
-    }
-}
-
-// The reading in hand.
-pub fn in_hand(side: Side, own: Reading, other: Reading) -> Reading
-    ensures { result ≡ of side own other }
-{
-    match side {
-        Side::Own => own,
-        Side::Other => other,
-    }
-}
-
-// The array of level k that it reads for station i.
-pub fn array_in_hand(side: Side, k: u8, i: u8) -> u32
-    ensures { result ≡ of side (own_array k i) (other_array k i) }
-{
-    match side {
-        Side::Own => sets::arrays::own_array(k, i),
-        Side::Other => sets::arrays::other_array(k, i),
-    }
-}
-
-// The reading in hand after its operation, the round, and whether the reading is over.
+// A union that is under way: what a station's state holds of it.
 #[derive(Clone, Copy)]
-pub struct Moved {
-    pub reading: Reading,
+pub struct Union {
+    pub level: u8,
+    pub own: Reading,
+    pub other: Reading,
+    pub side: Side,
     pub round: Round,
-    pub over: bool,
 }
 
-// What the operation brought to the reading.
-fn brought(r: Reading, round: Round, v: u64) -> Moved
-    ensures { result ≡ brought r round v }
-{
-    if is_writing(r) {
-        return Moved {
-            reading: Reading {
-                set: r.set,
-                known: r.known + 1,
+impl Union {
+    ghost use Rattle.station.specs.Hand.{state_of, in_hand, with_reading, agreed, reading_over, read_on, absorb_union};
+
+    // The state of a station whose union goes on like this, at that side.
+    fn at(self, side: Side) -> State
+        ensures { result ≡ State.Uniting self.level self.own self.other side self.round }
+    {
+        State::Uniting {
+            level: self.level,
+            own: self.own,
+            other: self.other,
+            side,
+            round: self.round,
+        }
+    }
+
+    // The reading in hand.
+    fn in_hand(self) -> Reading
+        ensures { result ≡ in_hand self }
+    {
+        match self.side {
+            Side::Own => self.own,
+            Side::Other => self.other,
+        }
+    }
+
+    // The union with this reading in hand.
+    fn with_reading(self, reading: Reading) -> Union
+        ensures { result ≡ with_reading self reading }
+    {
+        match self.side {
+            Side::Own => Union {
+                own: reading,
+                ..self
             },
-            round: round,
-            over: false,
+            Side::Other => Union {
+                other: reading,
+                ..self
+            },
+        }
+    }
+
+    // Of n levels: own and other are as they were read, and on goes the climb.
+    fn agreed(self, n: u8) -> State
+        ensures { result ≡ agreed n self }
+    {
+        climbed(n, self.level, mask::union_of(self.own.set, self.other.set))
+    }
+
+    // Own and other are read again.
+    #[tactic(auto, unfolding(method::specs::Steps::again))]
+    fn read_again(self, n: u8) -> State
+        ensures { result ≡ again n self.level self.own self.other }
+    {
+        let again = Union {
+            round: Round::Unchanged,
+            ..self
         };
+        if is_pending(self.level, self.own) {
+            again.at(Side::Own)
+        } else if is_pending(self.level, self.other) {
+            again.at(Side::Other)
+        } else {
+            self.agreed(n)
+        }
     }
-    if v == 0 {
-        return Moved {
-            reading: r,
-            round: round,
-            over: true,
-        };
-    }
-    Moved {
-        reading: found_set(r, v),
-        round: changed_round(round),
-        over: false,
-    }
-}
 
-// Whether the reading has an operation left.
-fn goes_on(k: u8, b: Moved) -> bool
-    ensures { result ≡ goes_on k b }
-{
-    if b.over {
-        return false;
+    // Own and other have been read in this round.
+    #[tactic(auto, unfolding(method::specs::Steps::round_over))]
+    fn round_over(self, n: u8) -> State
+        ensures { result ≡ round_over n self.level self.own self.other self.round }
+    {
+        match self.round {
+            Round::First | Round::Changed => self.read_again(n),
+            Round::Unchanged => self.agreed(n),
+        }
     }
-    is_pending(k, b.reading)
-}
 
-// Whether the other array comes next: after the own one, unless it is known in full.
-fn comes_next(k: u8, side: Side, other: Reading) -> bool
-    ensures { result ≡ of side (pending k other) false }
-{
-    match side {
-        Side::Own => is_pending(k, other),
-        Side::Other => false,
+    // The other array is read, from its last result.
+    #[tactic(auto, unfolding(method::specs::Steps::read_other))]
+    fn read_other(self, n: u8) -> State
+        ensures { result ≡ read_other n self.level self.own self.other self.round }
+    {
+        if is_pending(self.level, self.other) {
+            self.at(Side::Other)
+        } else {
+            self.round_over(n)
+        }
     }
-}
 
-// The reading in hand is over.
-fn reading_over(n: u8, k: u8, own: Reading, other: Reading, side: Side, round: Round) -> State
-    ensures { result ≡ reading_over n k own other side round }
-{
-    if comes_next(k, side, other) {
-        return at(k, own, other, Side::Other, round);
+    // The own array is read, and then the other.
+    #[tactic(auto, unfolding(method::specs::Steps::read_own))]
+    fn read_own(self, n: u8) -> State
+        ensures { result ≡ read_own n self.level self.own self.other self.round }
+    {
+        if is_pending(self.level, self.own) {
+            self.at(Side::Own)
+        } else {
+            self.read_other(n)
+        }
     }
-    round_over(n, k, own, other, round)
-}
 
-// What an operation of the union brought.
-pub fn absorbed(
-    n: u8,
-    k: u8,
-    own: Reading,
-    other: Reading,
-    side: Side,
-    round: Round,
-    v: u64,
-) -> State
-    ensures { result ≡ absorb_union n k own other side round v }
-{
-    let now = brought(in_hand(side, own, other), round, v);
-    let found = now.round;
-    if goes_on(k, now) {
-        let own_on = in_hand(side, now.reading, own);
-        return at(k, own_on, in_hand(side, other, now.reading), side, found);
+    // The reading in hand goes on.
+    fn read_on(self, n: u8) -> State
+        ensures { result ≡ read_on n self }
+    {
+        match self.side {
+            Side::Own => self.read_own(n),
+            Side::Other => self.read_other(n),
+        }
     }
-    let own_over = in_hand(side, now.reading, own);
-    reading_over(
-        n,
-        k,
-        own_over,
-        in_hand(side, other, now.reading),
-        side,
-        found,
-    )
+
+    // The reading in hand is over.
+    fn reading_over(self, n: u8) -> State
+        ensures { result ≡ reading_over n self }
+    {
+        match self.side {
+            Side::Own => self.read_other(n),
+            Side::Other => self.round_over(n),
+        }
+    }
+
+    // What an operation of the union brought.
+    #[tactic(auto, using(crate::proofs::Ways::absorbs))]
+    pub fn absorbed(self, n: u8, v: u64) -> State
+        ensures { result ≡ absorb_union n self v }
+    {
+        let reading = self.in_hand();
+        if is_writing(reading) {
+            self.with_reading(wrote(reading)).read_on(n)
+        } else if v == 0 {
+            self.reading_over(n)
+        } else {
+            let read = Union {
+                round: changed_round(self.round),
+                ..self
+            };
+            read.with_reading(found(reading, v)).read_on(n)
+        }
+    }
+
+    // The union's next operation, of station i.
+    #[tactic(auto, unfolding(method::specs::Steps::next_op))]
+    pub fn next_op(self, i: u8) -> Op
+        ensures { result ≡ next_op i (state_of self) }
+    {
+        match self.side {
+            Side::Own => reach(self.level, arrays::own_array(self.level, i), self.own),
+            Side::Other => reach(self.level, arrays::other_array(self.level, i), self.other),
+        }
+    }
 }
