@@ -1,67 +1,86 @@
--- Texts put into a page one behind the other.
-use Prim.Native.Nat.{ℕ, suc, ◌+◌, ◌≤◌, ◌<◌}
+-- Texts put on the page one behind the other.
+use Prim.Native.Nat.{ℕ, zero, suc, ◌+◌, ◌-◌, ◌≤◌, ◌<◌, min}
 use mathlib.Core.Path.{◌≡◌, refl, sym, ap, ◌∙◌}
-use mathlib.Core.List.{List, [], ◌∷◌, ◌++◌, append_assoc, append-nil}
-use native.Mathlib.Numerals.{add-one}
+use mathlib.Core.List.{List, [], ◌∷◌, ◌++◌, map, append_assoc, append-nil}
 use native.Mathlib.Omega.{arith}
-use lib.ListN.{length, get_or, take, set, length-append}
-use lib.Seq.{sets, set_comm, take-suc, length-take-le, take-length}
-use Rattle.answer.proofs.Laid.{sets-append}
-use Rattle.page.specs.Put.{Put}
+use lib.ListN.{length, get_or, take, length-append}
+use lib.Seq.{take_all}
+use Rattle.std.specs.Prelude.{Result, Ok, Some}
+use Rattle.std.specs.Io.KnownBytes.{WriteAppends}
+use Rattle.std.proofs.lemmas.List.{take_min, map_more}
+use Rattle.text.specs.Text.{LF, tab}
+use Rattle.page.specs.declared.fields.Field.{Field}
+use Rattle.page.specs.Lines.{line}
+use Rattle.page.specs.Page.{put_behind, field_shown}
 
--- a byte in front of those that stand already
-pub sets-front : (l : List ℕ) (i j : ℕ) (d : ℕ) (vs : List ℕ) → i < j → set (sets l j vs) i d ≡ sets (set l i d) j vs
-sets-front l i j d [] h = refl
-sets-front l i j d (v ∷ vs) h =
-    sets-front (set l j v) i (suc j) d vs (omega arith) ∙ ap (λ (z : List ℕ). sets z (suc j) vs) (set_comm l j i v d (λ e. absurd (omega arith)))
+-- ---- bytes behind bytes
 
-pub put-none : (page : List ℕ) (at : ℕ) → Put page at [] page at
-put-none page at = record { laid = refl; moved = omega arith }
+take-both : (n : ℕ) (a b : List ℕ) → take n (a ++ b) ≡ take n a ++ take (n - length (take n a)) b
+take-both zero a b = refl
+take-both (suc n) [] b = let all : suc n - 0 ≡ suc n = omega arith in rw all
+take-both (suc n) (x ∷ a) b =
+    let left : suc n - suc (length (take n a)) ≡ n - length (take n a) = omega arith in
+    rw left (ap (λ (l : List ℕ). x ∷ l) (take-both n a b))
 
--- one text behind another
-pub put_then : {start mid last : List ℕ} {at p q : ℕ} {a b : List ℕ} → Put start at a mid p → Put mid p b last q → Put start at (a ++ b) last q
-put_then {start} {mid} {last} {at} {p} {q} {a} {b} f g =
-    record {
-      laid = g.laid ∙ ap (λ (n : ℕ). sets mid n b) f.moved ∙ ap (λ (l : List ℕ). sets l (at + length a) b) f.laid ∙ sym (sets-append start at a b);
-      moved = let e : length (a ++ b) ≡ length a + length b = length-append a b in omega (arith, f.moved, g.moved);
-    }
+-- what is put behind a text that was cut off is cut off as well
+pub behind-twice : (page a b : List ℕ) → put_behind (put_behind page a) b ≡ put_behind page (a ++ b)
+unfolding put_behind
+behind-twice page a b =
+    let first : List ℕ = take (2310 - length page) a in
+    let left : 2310 - length (page ++ first) ≡ 2310 - length page - length first = omega (arith, length-append page first) in
+    append_assoc page first (take (2310 - length (page ++ first)) b)
+    ∙ ap (λ (l : List ℕ). page ++ l) (ap (λ (n : ℕ). first ++ take n b) left ∙ sym (take-both (2310 - length page) a b))
 
-pub put_same : {start last : List ℕ} {at q : ℕ} {a b : List ℕ} → a ≡ b → Put start at a last q → Put start at b last q
-put_same e f = rw (← e) f
+pub behind_then : (page mid last a b c : List ℕ) → mid ≡ put_behind page a → last ≡ put_behind mid b → a ++ b ≡ c → last ≡ put_behind page c
+behind_then page mid last a b c e f g = f ∙ ap (λ (l : List ℕ). put_behind l b) e ∙ behind-twice page a b ∙ ap (put_behind page) g
 
--- a whole text that is put part by part: so much is put, and the rest is to come
-pub record Putting (start : List ℕ) (at : ℕ) (whole page : List ℕ) (next : ℕ) (rest : List ℕ) : Type 0 where
-  pub text : List ℕ
-  pub put : Put start at text page next
-  pub split : whole ≡ text ++ rest
+pub behind-nothing : (page : List ℕ) → page ≡ put_behind page []
+unfolding put_behind
+behind-nothing page = rw (take_all {A = ℕ} (2310 - length page) [] (omega arith)) (sym (append-nil page))
 
-pub putting-none : (page : List ℕ) (at : ℕ) {whole rest : List ℕ} → whole ≡ rest → Putting page at whole page at rest
-putting-none page at e = record { text = []; put = put-none page at; split = e }
+-- what has room is put whole
+pub all-put : (text : List ℕ) → length text ≤ 2310 → put_behind [] text ≡ text
+unfolding put_behind
+all-put text h = take_all 2310 text h
 
-pub putting-more : {start page page' : List ℕ} {at next next' : ℕ} {whole rest : List ℕ} (part rest' : List ℕ) → Putting start at whole page next rest → rest ≡ part ++ rest' → Put page next part page' next'
-    → Putting start at whole page' next' rest'
-putting-more part rest' p e f =
-    record { text = p.text ++ part; put = put_then p.put f; split = p.split ∙ ap (λ (l : List ℕ). p.text ++ l) e ∙ sym (append_assoc p.text part rest') }
+pub written : {E : Type 0} (page bytes last : List ℕ) (r : Result ℕ E) → r ≡ Ok (min (2310 - length page) (length bytes)) → WriteAppends (Some page) (Some last) r bytes → last ≡ put_behind page bytes
+unfolding put_behind
+written page bytes last r e f = rw e at f ∙ ap (λ (l : List ℕ). page ++ l) (take_min (2310 - length page) bytes)
 
-pub putting-all : {start page : List ℕ} {at next : ℕ} {whole rest : List ℕ} → Putting start at whole page next rest → rest ≡ [] → Put start at whole page next
-putting-all p e = put_same (sym (p.split ∙ ap (λ (l : List ℕ). p.text ++ l) e ∙ append-nil p.text)) p.put
+-- ---- a line, field by field
 
--- the bytes so far
-pub record Copied (page₀ : List ℕ) (at : ℕ) (bytes page : List ℕ) (i : ℕ) : Type 0 where
-  pub low : i ≤ length bytes
-  pub long : length page ≡ length page₀
-  pub laid : page ≡ sets page₀ at (take i bytes)
+-- fields, each with a tab in front
+abbrev pub tabbed : List (List ℕ) → List ℕ
+tabbed [] = []
+tabbed (f ∷ fs) = tab ∷ f ++ tabbed fs
 
-pub copied_more : (page₀ : List ℕ) (at : ℕ) (bytes : List ℕ) (i : ℕ) → i < length bytes → set (sets page₀ at (take i bytes)) (at + i) (get_or bytes i 0) ≡ sets page₀ at (take (i + 1) bytes)
-copied_more page₀ at bytes i h =
-    let n : length (take i bytes) ≡ i = length-take-le i bytes (omega arith) in
-    let more : take (i + 1) bytes ≡ take i bytes ++ (get_or bytes i 0 ∷ []) = rw add-one (take-suc bytes i 0 h) in
-    ap (λ (k : ℕ). set (sets page₀ at (take i bytes)) (at + k) (get_or bytes i 0)) (sym n)
-    ∙ sym (sets-append page₀ at (take i bytes) (get_or bytes i 0 ∷ []))
-    ∙ ap (sets page₀ at) (sym more)
+pub line-is : (word : List ℕ) (fs : List (List ℕ)) → word ++ tabbed fs ++ LF ∷ [] ≡ line (word ∷ fs)
+unfolding line
+line-is word [] = ap (λ (l : List ℕ). l ++ LF ∷ []) (append-nil word)
+line-is word (f ∷ fs) = append_assoc word (tab ∷ f ++ tabbed fs) (LF ∷ []) ∙ ap (λ (l : List ℕ). word ++ tab ∷ l) (line-is f fs)
 
-pub copied_all : (page₀ : List ℕ) (at : ℕ) (bytes page : List ℕ) (i : ℕ) → Copied page₀ at bytes page i → length bytes ≤ i → Put page₀ at bytes page (at + i)
-copied_all page₀ at bytes page i p h =
-    let e : i ≡ length bytes = omega (arith, p.low) in
-    let all : take i bytes ≡ bytes = rw e (take-length bytes) in
-    record { laid = p.laid ∙ ap (sets page₀ at) all; moved = ap (λ (k : ℕ). at + k) e }
+tabbed-last : (fs : List (List ℕ)) (f : List ℕ) → tabbed fs ++ tab ∷ f ≡ tabbed (fs ++ f ∷ [])
+tabbed-last [] f = ap (λ (l : List ℕ). tab ∷ l) (sym (append-nil f))
+tabbed-last (g ∷ fs) f = ap (λ (l : List ℕ). tab ∷ l) (append_assoc g (tabbed fs) (tab ∷ f) ∙ ap (λ (l : List ℕ). g ++ l) (tabbed-last fs f))
+
+-- the word and the first i fields
+abbrev pub begun : List ℕ → List Field → ℕ → List ℕ
+begun word fields i = word ++ tabbed (map field_shown (take i fields))
+
+pub none-begun : (start page word : List ℕ) (fields : List Field) → page ≡ put_behind start word → page ≡ put_behind start (begun word fields 0)
+none-begun start page word fields e = e ∙ ap (put_behind start) (sym (append-nil word))
+
+pub one-field : (start page mid last word : List ℕ) (fields : List Field) (i : ℕ) (d : Field) → i < length fields → page ≡ put_behind start (begun word fields i)
+    → mid ≡ put_behind page (tab ∷ []) → last ≡ put_behind mid (field_shown (get_or fields i d)) → last ≡ put_behind start (begun word fields (i + 1))
+one-field start page mid last word fields i d h e f g =
+    let shown : List ℕ = field_shown (get_or fields i d) in
+    let so_far : List (List ℕ) = map field_shown (take i fields) in
+    behind_then start page last (begun word fields i) (tab ∷ shown) (begun word fields (i + 1)) e (behind_then page mid last (tab ∷ []) shown (tab ∷ shown) f g refl)
+    (append_assoc word (tabbed so_far) (tab ∷ shown)
+    ∙ ap (λ (l : List ℕ). word ++ l) (tabbed-last so_far shown ∙ ap tabbed (sym (map_more field_shown fields i d h))))
+
+pub line-put : (start page last word : List ℕ) (fields : List Field) (i : ℕ) → length fields ≤ i → page ≡ put_behind start (begun word fields i) → last ≡ put_behind page (LF ∷ [])
+    → last ≡ put_behind start (line (word ∷ map field_shown fields))
+line-put start page last word fields i h e f =
+    behind_then start page last (begun word fields i) (LF ∷ []) (line (word ∷ map field_shown fields)) e f
+    (ap (λ (fs : List Field). word ++ tabbed (map field_shown fs) ++ LF ∷ []) (take_all i fields h) ∙ line-is word (map field_shown fields))

@@ -1,6 +1,5 @@
 -- Laws for the proofs of this crate.
-pub mod Laying
 pub mod Numerals
-mod Fielding
-mod Lining
-mod Listed
+pub mod Sizes
+mod Laying
+pub mod Listed

@@ -1,79 +1,142 @@
--- A line for each stock and each station.
-use Prim.Native.Nat.{ℕ, suc, ◌+◌, ◌-◌, ◌*◌, ◌≤◌, ◌<◌, min}
+-- The lines put one behind the other, and the pages that they fill.
+use Prim.Native.Nat.{ℕ, zero, suc, ◌+◌, ◌*◌, ◌≤◌, ◌<◌, min}
 use mathlib.Core.Path.{◌≡◌, refl, sym, ap, ◌∙◌}
-use mathlib.Core.List.{List, [], ◌∷◌, ◌++◌}
+use mathlib.Core.List.{List, [], ◌∷◌, ◌++◌, append_assoc, append-nil}
+use native.Mathlib.Nat.{add-zero}
 use native.Mathlib.Decide.{dec_lt}
 use native.Mathlib.Omega.{arith}
-use native.Mathlib.Numerals.{add-one}
-use lib.ListN.{length, get_or, take, drop, length-take, drop_of_length-le}
-use lib.Seq.{drop-cons, get_or-take, take_all}
+use lib.ListN.{length, get_or, take, length-take, length-append}
+use lib.Seq.{take_all, length-take-le, get_or-take}
+use Rattle.std.proofs.lemmas.List.{take_more}
+use Rattle.method.specs.declared.State.{State}
+use Rattle.method.specs.declared.State.TheVariants.{NotBegun, Uniting, Gathering, Settled}
 use Rattle.method.specs.declared.Row.{Row}
-use Rattle.method.specs.Board.{not_begun}
-use Rattle.page.specs.Lines.{numbered, run_line, stock_line, station_line, report_lines}
-use Rattle.page.specs.Put.{Put, codes_from, codes_in}
-use Rattle.page.proofs.Laying.{put_then}
+use Rattle.method.specs.Demand.{is_settled}
+use Rattle.answer.specs.declared.shown.Shown.{Shown}
+use Rattle.answer.specs.Answer.{shown_of, state_number, stations_shown, stocks_shown}
+use Rattle.text.specs.Limits.{most_code}
+use Rattle.page.specs.Digits.{decimal}
+use Rattle.page.specs.Lines.{ST, NO, line, refusal_line, run_line, stock_line, set_shown, station_line, numbered, report_lines, most_station}
+use Rattle.page.specs.Page.{put_behind, has_settled, code_at, codes_from, codes_in}
+use Rattle.page.proofs.Laying.{behind_then, behind-nothing, all-put}
+use Rattle.page.proofs.Sizes.{refusal-most, lines-most}
 
--- ---- stocks
+-- ---- a refusal, a station
 
--- those from stock k on
-abbrev pub stocks_from : List ℕ → List ℕ → ℕ → ℕ → List ℕ
-stocks_from cells lens count k = numbered stock_line k (codes_from cells lens k (count - k))
+pub refusal-put : (start last : List ℕ) (number place : ℕ) → number < 65536 → place < 65536 → start ≡ [] → last ≡ put_behind start (line (NO ∷ decimal number ∷ decimal place ∷ []))
+    → last ≡ refusal_line number place
+unfolding refusal_line
+refusal-put start last number place h k e f =
+    f ∙ rw e (all-put (refusal_line number place) (refusal-most number place (omega arith) (omega arith)))
 
-pub stocks-more : (cells lens : List ℕ) (count k len : ℕ) → k < count → len ≡ min (get_or lens k 0) 12
-    → stocks_from cells lens count k ≡ stock_line k (take (k * 12 + len - k * 12) (drop (k * 12) cells)) ++ stocks_from cells lens count (k + 1)
-unfolding numbered codes_from
-stocks-more cells lens count k len h e =
-    let left : count - k ≡ suc (count - (k + 1)) = omega arith in
-    let here : k * 12 + len - k * 12 ≡ len = omega arith in
-    rw (left, here, e, add-one)
+settled_too : (s : State) → has_settled (shown_of s) ≡ is_settled s
+settled_too (NotBegun stocks) = refl
+settled_too (Uniting k own other side round) = refl
+settled_too (Gathering S j got) = refl
+settled_too (Settled S got) = refl
 
-pub stocks-all : (cells lens : List ℕ) (count k : ℕ) → count ≤ k → stocks_from cells lens count k ≡ []
-unfolding numbered codes_from
-stocks-all cells lens count k h = let left : count - k ≡ 0 = omega arith in rw left
+pub station-put : (start last : List ℕ) (i : ℕ) (row : Row) (told : Shown) (state wide : ℕ) → told ≡ shown_of row.state → state ≡ state_number told → wide ≡ state
+    → last ≡ put_behind start (line (ST ∷ decimal i ∷ decimal wide ∷ decimal row.count ∷ set_shown (has_settled told) 4 (stations_shown told) ∷ set_shown (has_settled told) 16 (stocks_shown told) ∷ []))
+    → last ≡ put_behind start (station_line i row)
+unfolding station_line
+station-put start last i row told state wide e f g h = h ∙ rw (g, f, e, settled_too row.state)
 
-pub stocks-none : (cells lens : List ℕ) (count : ℕ) → numbered stock_line 0 (codes_from cells lens 0 count) ≡ stocks_from cells lens count 0
-stocks-none cells lens count = let all : count - 0 ≡ count = omega arith in rw all
+-- ---- a line more
 
--- ---- stations
-
-numbered_more : {A : Type 0} (line_of : ℕ → A → List ℕ) (k : ℕ) (x : A) (xs : List A) → numbered line_of k (x ∷ xs) ≡ line_of k x ++ numbered line_of (suc k) xs
+numbered-last : {A : Type 0} (line_of : ℕ → A → List ℕ) (k : ℕ) (xs : List A) (x : A) → numbered line_of k xs ++ line_of (k + length xs) x ≡ numbered line_of k (xs ++ x ∷ [])
 unfolding numbered
-numbered_more line_of k x xs = refl
+numbered-last line_of k [] x = rw (add-zero k) (sym (append-nil (line_of k x)))
+numbered-last line_of k (y ∷ xs) x =
+    let next : k + suc (length xs) ≡ suc k + length xs = omega arith in
+    rw next (append_assoc (line_of k y) (numbered line_of (suc k) xs) (line_of (suc k + length xs) x) ∙ ap (λ (l : List ℕ). line_of k y ++ l) (numbered-last line_of (suc k) xs x))
 
-abbrev pub stations_from : ℕ → List Row → ℕ → List ℕ
-stations_from n rows i = numbered station_line (i + 1) (drop i (take n rows))
+module _ (cells lens : List ℕ) where
+  codes-last : (k n : ℕ) → codes_from cells lens k (suc n) ≡ codes_from cells lens k n ++ code_at cells lens (k + n) ∷ []
+  unfolding codes_from
+  codes-last k zero = rw (add-zero k)
+  codes-last k (suc n) =
+      let next : k + suc n ≡ suc k + n = omega arith in
+      rw next (ap (λ (l : List (List ℕ)). code_at cells lens k ∷ l) (codes-last (suc k) n))
 
-pub stations-more : (n : ℕ) (rows : List Row) (i : ℕ) → i < n → n ≤ length rows
-    → stations_from n rows i ≡ station_line (i + 1) (get_or rows i (not_begun 0)) ++ stations_from n rows (i + 1)
-stations-more n rows i h l =
-    let long : length (take n rows) ≡ n = simp length-take (omega arith) in
-    let here : drop i (take n rows) ≡ get_or (take n rows) i (not_begun 0) ∷ drop (suc i) (take n rows) = drop-cons (take n rows) i (not_begun 0) (omega arith) in
-    let row : get_or (take n rows) i (not_begun 0) ≡ get_or rows i (not_begun 0) = get_or-take n rows i (not_begun 0) h in
-    let next : i + 1 ≡ suc i = add-one i in
-    let after : suc i + 1 ≡ suc (suc i) = add-one (suc i) in
-    rw (next, after) (ap (numbered station_line (suc i)) here ∙ numbered_more station_line (suc i) (get_or (take n rows) i (not_begun 0)) (drop (suc i) (take n rows)) ∙ ap (λ (r : Row). station_line (suc i) r ++ numbered station_line (suc (suc i)) (drop (suc i) (take n rows))) row)
+  codes-length : (k n : ℕ) → length (codes_from cells lens k n) ≡ n
+  unfolding codes_from
+  codes-length k zero = refl
+  codes-length k (suc n) = ap suc (codes-length (suc k) n)
 
-pub stations-all : (n : ℕ) (rows : List Row) (i : ℕ) → n ≤ i → stations_from n rows i ≡ []
-unfolding numbered
-stations-all n rows i h =
-    let long : length (take n rows) ≤ i = simp length-take (omega arith) in
-    rw (drop_of_length-le (take n rows) long)
+  codes-short : (k n j : ℕ) → j < n → length (get_or (codes_from cells lens k n) j []) ≤ most_code
+  unfolding codes_from
+  codes-short k zero j h = absurd (omega arith)
+  codes-short k (suc n) zero h = simp length-take (omega arith)
+  codes-short k (suc n) (suc j) h = codes-short (suc k) n j (omega arith)
+
+  pub no-stock : (page : List ℕ) → page ≡ put_behind page (numbered stock_line 0 (codes_from cells lens 0 0))
+  unfolding numbered codes_from
+  no-stock page = behind-nothing page
+
+  pub one-stock : (start page last code : List ℕ) (k : ℕ) → page ≡ put_behind start (numbered stock_line 0 (codes_from cells lens 0 k)) → code ≡ code_at cells lens k
+      → last ≡ put_behind page (stock_line k code) → last ≡ put_behind start (numbered stock_line 0 (codes_from cells lens 0 (k + 1)))
+  one-stock start page last code k e f g =
+      let so_far : List (List ℕ) = codes_from cells lens 0 k in
+      let more : k + 1 ≡ suc k = omega arith in
+      let here : 0 + length so_far ≡ k = omega (arith, codes-length 0 k) in
+      let place : 0 + k ≡ k = omega arith in
+      let next : so_far ++ code ∷ [] ≡ codes_from cells lens 0 (k + 1) = rw (f, more, codes-last 0 k, place) in
+      behind_then start page last (numbered stock_line 0 so_far) (stock_line k code) (numbered stock_line 0 (codes_from cells lens 0 (k + 1))) e g
+      (ap (λ (m : ℕ). numbered stock_line 0 so_far ++ stock_line m code) (sym here) ∙ numbered-last stock_line 0 so_far code ∙ ap (numbered stock_line 0) next)
+
+module _ (rows : List Row) where
+  -- the stations' lines so far, and that they are short
+  pub record Stationed (start page : List ℕ) (i : ℕ) : Type 0 where
+    pub put : page ≡ put_behind start (numbered station_line 1 (take i rows))
+    pub short : length (numbered station_line 1 (take i rows)) ≤ i * most_station
+
+  pub no-station : (page : List ℕ) → Stationed page page 0
+  unfolding numbered
+  no-station page = record { put = behind-nothing page; short = omega arith }
+
+  pub one-station : (start page last : List ℕ) (i n : ℕ) (d : Row) → i < length (take n rows) → Stationed start page i
+      → last ≡ put_behind page (station_line (i + 1) (get_or (take n rows) i d)) → length (station_line (i + 1) (get_or (take n rows) i d)) ≤ most_station → Stationed start last (i + 1)
+  one-station start page last i n d h e f m =
+      let few : length (take n rows) ≡ min n (length rows) = length-take n rows in
+      let row : get_or (take n rows) i d ≡ get_or rows i d = get_or-take n rows i d (omega arith) in
+      let line : List ℕ = station_line (i + 1) (get_or rows i d) in
+      let so_far : List ℕ = numbered station_line 1 (take i rows) in
+      let here : 1 + length (take i rows) ≡ i + 1 = omega (arith, length-take-le i rows (omega arith)) in
+      let whole : so_far ++ line ≡ numbered station_line 1 (take (i + 1) rows) =
+      ap (λ (k : ℕ). so_far ++ station_line k (get_or rows i d)) (sym here) ∙ numbered-last station_line 1 (take i rows) (get_or rows i d)
+      ∙ ap (numbered station_line 1) (sym (take_more rows i d (omega arith))) in
+      let short : length line ≤ most_station = rw (← row) m in
+      record {
+        put = behind_then start page last so_far line (numbered station_line 1 (take (i + 1) rows)) e.put (rw (← row) f) whole;
+        short = rw (← whole, length-append so_far line) (omega (arith, e.short));
+      }
+
+  -- the first n rows, or all sixteen
+  pub all-stations : (start page : List ℕ) (i n : ℕ) → length rows ≡ 16 → i ≡ min n 16 → Stationed start page i
+      → (page ≡ put_behind start (numbered station_line 1 (take n rows))) × (length (numbered station_line 1 (take n rows)) ≤ 16 * most_station)
+  all-stations start page i n long e s =
+      (s.put ∙ ap (λ (r : List Row). put_behind start (numbered station_line 1 r)) all, rw (← all) (omega (arith, s.short)))
+    where
+      go : Dec (n < 16) → take i rows ≡ take n rows
+      go (yes m) = let same : i ≡ n = omega arith in rw same
+      go (no m) = let most : i ≡ 16 = omega arith in rw most (take_all 16 rows (omega arith) ∙ sym (take_all n rows (omega arith)))
+
+      all : take i rows ≡ take n rows
+      all = go (dec_lt n 16)
 
 -- ---- the report
 
--- all the rows there are
-few-rows : (n : ℕ) (rows : List Row) → length rows ≡ 16 → take (min n 16) rows ≡ take n rows
-few-rows n rows e = go (dec_lt n 16)
-  where
-    go : Dec (n < 16) → take (min n 16) rows ≡ take n rows
-    go (yes h) = let m : min n 16 ≡ n = omega arith in rw m
-    go (no h) = let m : min n 16 ≡ 16 = omega arith in rw m (take_all 16 rows (omega arith) ∙ sym (take_all n rows (omega arith)))
-
-pub report-put : (page a b last cells lens : List ℕ) (p q r n turns idle stocks count most : ℕ) (rows : List Row) → length rows ≡ 16 → count ≡ min stocks 64 → most ≡ min n 16
-    → Put page 0 (run_line n turns idle) a p → Put a p (numbered stock_line 0 (codes_from cells lens 0 count)) b q → Put b q (numbered station_line 1 (take most rows)) last r
-    → Put page 0 (report_lines n turns idle (codes_in cells lens stocks) rows) last r
+pub report-put : (n wide turns idle stocks : ℕ) (cells lens none a b last : List ℕ) (rows : List Row) → wide < 65536 → turns < 65536 → idle < 65536 → none ≡ [] → wide ≡ n
+    → a ≡ put_behind none (run_line wide turns idle) → b ≡ put_behind a (numbered stock_line 0 (codes_in cells lens stocks)) → last ≡ put_behind b (numbered station_line 1 (take n rows))
+    → length (numbered station_line 1 (take n rows)) ≤ 16 * most_station → last ≡ report_lines n turns idle (codes_in cells lens stocks) rows
 unfolding report_lines
-report-put page a b last cells lens p q r n turns idle stocks count most rows long c m f g h =
-    let g' : Put a p (numbered stock_line 0 (codes_in cells lens stocks)) b q = rw (← c) g in
-    let h' : Put b q (numbered station_line 1 (take n rows)) last r = rw (← few-rows n rows long, ← m) h in
-    put_then (put_then f g') h'
+report-put n wide turns idle stocks cells lens none a b last rows h k l e w f g i short =
+    let codes : List (List ℕ) = codes_in cells lens stocks in
+    let run : List ℕ = run_line n turns idle in
+    let few : length codes ≡ min stocks 64 = codes-length cells lens 0 (min stocks 64) in
+    let fits : length (report_lines n turns idle codes rows) ≤ 2310 =
+    lines-most n turns idle codes rows (omega arith) (omega arith) (omega arith) (omega arith) (λ j m. codes-short cells lens 0 (min stocks 64) j (omega arith)) short in
+    let f' : a ≡ put_behind [] run = rw (← w, ← e) f in
+    behind_then [] b last (run ++ numbered stock_line 0 codes) (numbered station_line 1 (take n rows)) (report_lines n turns idle codes rows)
+    (behind_then [] a b run (numbered stock_line 0 codes) (run ++ numbered stock_line 0 codes) f' g refl) i refl
+    ∙ all-put (report_lines n turns idle codes rows) fits

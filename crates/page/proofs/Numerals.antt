@@ -1,17 +1,22 @@
--- Digits, from the last to the first, and how many there are.
-use Prim.Native.Nat.{ℕ, zero, suc, ◌+◌, ◌-◌, ◌/◌, ◌%◌, ◌≤◌, ◌<◌}
+-- Numbers as digits: the library's texts are the ones defined.
+use Prim.Native.Nat.{ℕ, zero, suc, ◌+◌, ◌-◌, ◌*◌, ◌/◌, ◌%◌, ◌^◌, ◌≤◌, ◌<◌}
 use mathlib.Core.Path.{◌≡◌, refl, sym, ap, ◌∙◌}
-use mathlib.Core.Bool.{Bool, true, false}
-use mathlib.Core.List.{List, [], ◌∷◌, ◌++◌, append_assoc, append-nil}
-use native.Mathlib.Nat.{add-zero}
+use mathlib.Core.Bool.{true, false}
+use mathlib.Core.List.{List, [], ◌∷◌, ◌++◌, append_assoc}
+use native.Mathlib.Nat.{pow-succ', div-div-eq-div-mul}
 use native.Mathlib.Omega.{arith}
-use borrow.Author.Tests.{lt-ltb, le-ltb, ltb-true, ltb-false}
-use lib.Dec.{ltb}
-use lib.ListN.{length, set, length-append, length-set}
-use lib.Seq.{sets}
-use Rattle.page.specs.Digits.{digit, digits, width_in, width}
-use Rattle.page.specs.Put.{Put}
-use Rattle.page.proofs.Laying.{sets-front}
+use borrow.Author.Tests.{lt-ltb, le-ltb, eqb-true}
+use lib.Dec.{eqb}
+use lib.ListN.{length, get_or, take, drop, length-append, drop_of_length-le}
+use lib.Seq.{drop-append-le}
+use Rattle.std.specs.Prelude.{Result, Ok, Err, IsOk, OnOk, ◌↔◌}
+use Rattle.std.specs.Int.{w64, byte_at, bytes_high_first, to_be_bytes}
+use Rattle.std.specs.Fmt.{decimal as printed}
+use Rattle.std.proofs.lemmas.List.{take_rest}
+use Rattle.std.proofs.lemmas.Bool.{agree_below_at}
+use Rattle.std.proofs.lemmas.Fmt.{AppendsLastDigit, decimal_digit, decimal_from_appends, length-decimal-le}
+use Rattle.hex.specs.Hex.{lower_digits, encode_with, encode_lower}
+use Rattle.page.specs.Digits.{digit, digits, width_in, width, decimal, hex}
 
 pub digits-length : (base w x : ℕ) → length (digits base w x) ≡ w
 unfolding digits
@@ -21,106 +26,90 @@ digits-length base (suc w) x =
     let ih : length (digits base w (x / base)) ≡ w = digits-length base w (x / base) in
     omega arith
 
--- the last digits stand, and the first `left` of them are to come, of what is left of the number
-pub record Digited (page₀ : List ℕ) (at base w x : ℕ) (page : List ℕ) (rest left : ℕ) : Type 0 where
-  pub low : left ≤ w
-  pub long : length page ≡ length page₀
-  pub tail : List ℕ
-  pub split : digits base w x ≡ digits base left rest ++ tail
-  pub laid : page ≡ sets page₀ (at + left) tail
-
-pub digited-none : (page : List ℕ) (at base w x : ℕ) → Digited page at base w x page x w
-digited-none page at base w x = record { low = omega arith; long = refl; tail = []; split = sym (append-nil (digits base w x)); laid = refl }
-
-pub digited-more : {page₀ page : List ℕ} {at base w x rest left : ℕ} (d : ℕ) → Digited page₀ at base w x page rest left → 0 < left → d ≡ digit (rest % base)
-    → Digited page₀ at base w x (set page (at + (left - 1)) d) (rest / base) (left - 1)
+-- the last w of more digits
+digits-last : (base d w x : ℕ) → drop d (digits base (d + w) x) ≡ digits base w x
 unfolding digits
-digited-more {page₀} {page} {at} {base} {w} {x} {rest} {left} d p h e = go left h p
-  where
-    go : (left : ℕ) → 0 < left → Digited page₀ at base w x page rest left → Digited page₀ at base w x (set page (at + (left - 1)) d) (rest / base) (left - 1)
-    go zero h p = absurd (omega arith)
-    go (suc m) h p =
-        let one : suc m - 1 ≡ m = omega arith in
-        let here : at + suc m ≡ suc (at + m) = omega arith in
-        rw one
-        (record {
-          low = omega (arith, p.low);
-          long = length-set page (at + m) d ∙ p.long;
-          tail = d ∷ p.tail;
-          split =
-              p.split ∙ append_assoc (digits base m (rest / base)) (digit (rest % base) ∷ []) p.tail
-              ∙ ap (λ (c : ℕ). digits base m (rest / base) ++ (c ∷ p.tail)) (sym e);
-          laid =
-              ap (λ (l : List ℕ). set l (at + m) d) (p.laid ∙ ap (λ (k : ℕ). sets page₀ k p.tail) here)
-              ∙ sets-front page₀ (at + m) (suc (at + m)) d p.tail (omega arith);
-        })
+digits-last base d zero x = drop_of_length-le (digits base (d + 0) x) {i = d} (let e = digits-length base (d + 0) x in omega arith)
+digits-last base d (suc w) x =
+    let more : d + suc w ≡ suc (d + w) = omega arith in
+    let front : List ℕ = digits base (d + w) (x / base) in
+    let room : d ≤ length front = let e = digits-length base (d + w) (x / base) in omega arith in
+    rw more (drop-append-le d front (digit (x % base) ∷ []) room ∙ ap (λ (l : List ℕ). l ++ (digit (x % base) ∷ [])) (digits-last base d w (x / base)))
 
-pub digited-all : {page₀ page : List ℕ} {at base w x rest left : ℕ} → Digited page₀ at base w x page rest left → left ≡ 0 → Put page₀ at (digits base w x) page (at + w)
+-- ---- decimal
+
+width_small : (most n : ℕ) → n < 10 → width_in (suc most) n ≡ 1
+unfolding width_in
+width_small most n h = rw (lt-ltb n 10 h, width_in)
+
+width-large : (most n : ℕ) → 10 ≤ n → width_in (suc most) n ≡ suc (width_in most (n / 10))
+unfolding width_in
+width-large most n h = rw (le-ltb n 10 h, width_in)
+
+appends : AppendsLastDigit (λ (k n : ℕ). digits 10 (width_in k n) n)
 unfolding digits
-digited-all {page₀} {page} {at} {base} {w} {x} {rest} {left} p e =
-    let all : digits base w x ≡ p.tail = p.split ∙ ap (λ (k : ℕ). digits base k rest ++ p.tail) e in
+appends =
     record {
-      laid = p.laid ∙ ap (λ (k : ℕ). sets page₀ (at + k) p.tail) e ∙ rw add-zero (ap (sets page₀ at) (sym all));
-      moved = ap (λ (k : ℕ). at + k) (sym (digits-length base w x));
+      one = λ k n h. let small : n % 10 ≡ n = omega arith in rw (width_small k n h, small, lt-ltb n 10 h);
+      more = λ k n h. let low : n % 10 < 10 = omega arith in rw (width-large k n h, lt-ltb (n % 10) 10 low);
     }
 
--- ---- how many decimal digits
+below-power : (n : ℕ) → n < 10 ^ n
+below-power zero = omega arith
+below-power (suc n) = let ih = below-power n in rw (pow-succ' 10 n) (omega arith)
 
-width_small : (most x : ℕ) → x < 10 → width_in (suc most) x ≡ 1
-unfolding width_in
-width_small most x h = rw (lt-ltb x 10 h, width_in)
+pub decimal-is : (x : ℕ) → x < 2 ^ 64 → printed x ≡ decimal x
+unfolding digits width_in width
+decimal-is zero h = decimal_digit 0 (omega arith)
+decimal-is (suc x) h =
+    let few : length (printed (suc x)) ≤ suc x = length-decimal-le (suc x) (suc x) (omega arith) (below-power (suc x)) h in
+    sym (decimal_from_appends (λ (k n : ℕ). digits 10 (width_in k n) n) appends (suc x) (suc x) h few)
 
-width-large : (most x : ℕ) → 10 ≤ x → width_in (suc most) x ≡ suc (width_in most (x / 10))
-unfolding width_in
-width-large most x h = rw (le-ltb x 10 h, width_in)
+pub decimal-five : (x : ℕ) → x < 100000 → length (decimal x) ≤ 5
+decimal-five x h = rw (← decimal-is x (omega arith)) (length-decimal-le 5 x (omega arith) h (omega arith))
 
--- so many digits are counted, and those of the rest are to come
-pub record Counted (x rest more : ℕ) : Type 0 where
-  pub most : ℕ
-  pub enough : rest ≤ most
-  pub low : 1 ≤ more
-  pub high : more + rest ≤ x + 1
-  pub split : width x + 1 ≡ width_in most rest + more
+-- ---- hex
 
-pub counted_none : (x : ℕ) → Counted x x 1
-unfolding width
-counted_none x = record { most = x; enough = omega arith; low = omega arith; high = omega arith; split = refl }
+-- the library's table has the digits
+glyph : (d : ℕ) → d < 16 → get_or lower_digits d 0 ≡ digit d
+glyph d h = eqb-true _ _ (agree_below_at (λ (b : ℕ). eqb (get_or lower_digits b 0) (digit b)) (λ (b : ℕ). true) 16 d refl h)
 
-pub counted-more : {x rest more : ℕ} → Counted x rest more → 10 ≤ rest → Counted x (rest / 10) (more + 1)
-counted-more {x} {rest} {more} p h = go p.most p.enough p.split
-  where
-    go : (most : ℕ) → rest ≤ most → width x + 1 ≡ width_in most rest + more → Counted x (rest / 10) (more + 1)
-    go zero e s = absurd (omega arith)
-    go (suc m) e s =
-        let l : width_in (suc m) rest ≡ suc (width_in m (rest / 10)) = width-large m rest h in
-        record { most = m; enough = omega arith; low = omega arith; high = omega (arith, p.high); split = omega (arith) }
+byte-behind : (k n : ℕ) → byte_at (suc k) n ≡ byte_at k (n / 256)
+byte-behind zero n = refl
+byte-behind (suc k) n = ap (λ (m : ℕ). m % 256) (ap (λ (m : ℕ). n / m) (pow-succ' 256 (suc k)) ∙ sym (div-div-eq-div-mul n 256 (256 ^ suc k)))
 
-pub counted-all : {x rest more : ℕ} → Counted x rest more → rest < 10 → more ≡ width x
-unfolding width_in
-counted-all {x} {rest} {more} p h = go p.most p.split
-  where
-    go : (most : ℕ) → width x + 1 ≡ width_in most rest + more → more ≡ width x
-    go zero s = omega arith
-    go (suc m) s = let l : width_in (suc m) rest ≡ 1 = width_small m rest h in omega arith
+bytes-last : (k n : ℕ) → bytes_high_first (suc k) n ≡ bytes_high_first k (n / 256) ++ (n % 256 ∷ [])
+bytes-last zero n = refl
+bytes-last (suc k) n =
+    ap (λ (b : ℕ). b ∷ bytes_high_first (suc k) n) (byte-behind k n) ∙ ap (λ (l : List ℕ). byte_at k (n / 256) ∷ l) (bytes-last k n)
 
--- a number of one digit more, or of no more
-width-more : (most x w : ℕ) → 1 ≤ w → ((m : ℕ) → width_in m (x / 10) ≤ w) → width_in most x ≤ suc w
-unfolding width_in
-width-more zero x w h ih = omega arith
-width-more (suc m) x w h ih = go (ltb x 10) refl
-  where
-    go : (b : Bool) → ltb x 10 ≡ b → width_in (suc m) x ≤ suc w
-    go true e = rw (width_small m x (ltb-true x 10 e)) (omega arith)
-    go false e = rw (width-large m x (ltb-false x 10 e)) (omega (arith, ih m))
+encode-append : (t a b : List ℕ) → encode_with t (a ++ b) ≡ encode_with t a ++ encode_with t b
+unfolding encode_with
+encode-append t [] b = refl
+encode-append t (x ∷ a) b = ap (λ (l : List ℕ). get_or t (x / 16) 0 ∷ get_or t (x % 16) 0 ∷ l) (encode-append t a b)
 
-width_one : (most x : ℕ) → x < 10 → width_in most x ≤ 1
-unfolding width_in
-width_one zero x h = omega arith
-width_one (suc m) x h = rw (width_small m x h) (omega arith)
+-- two digits for each byte
+hex-bytes : (k n : ℕ) → encode_lower (bytes_high_first k n) ≡ digits 16 (2 * k) n
+unfolding encode_with digits
+hex-bytes zero n = refl
+hex-bytes (suc k) n =
+    let two : 2 * suc k ≡ suc (suc (2 * k)) = omega arith in
+    let front : n / 256 ≡ n / 16 / 16 = omega arith in
+    let high : n % 256 / 16 ≡ n / 16 % 16 = omega arith in
+    let low : n % 256 % 16 ≡ n % 16 = omega arith in
+    let first : get_or lower_digits (n % 256 / 16) 0 ≡ digit (n / 16 % 16) = rw high (glyph (n / 16 % 16) (omega arith)) in
+    let last : get_or lower_digits (n % 256 % 16) 0 ≡ digit (n % 16) = rw low (glyph (n % 16) (omega arith)) in
+    ap encode_lower (bytes-last k n) ∙ encode-append lower_digits (bytes_high_first k (n / 256)) (n % 256 ∷ [])
+    ∙ rw (two, first, last, hex-bytes k (n / 256), front) (sym (append_assoc (digits 16 (2 * k) (n / 16 / 16)) (digit (n / 16 % 16) ∷ []) (digit (n % 16) ∷ [])))
 
--- a number below 100,000 has no more than five digits
-pub width-five : (x : ℕ) → x < 100000 → width x ≤ 5
-unfolding width
-width-five x h =
-    width-more x x 4 (omega arith) (λ a. width-more a (x / 10) 3 (omega arith) (λ b. width-more b (x / 10 / 10) 2 (omega arith) (λ c.
-    width-more c (x / 10 / 10 / 10) 1 (omega arith) (λ d. width_one d (x / 10 / 10 / 10 / 10) (omega arith)))))
+pub hex-is : (w n : ℕ) → w ≤ 16 → drop (16 - w) (encode_lower (to_be_bytes w64 n)) ≡ hex w n
+hex-is w n h =
+    let all : 16 - w + w ≡ 16 = omega arith in
+    ap (drop (16 - w)) (hex-bytes 8 n ∙ ap (λ (m : ℕ). digits 16 m n) (sym all)) ∙ digits-last 16 (16 - w) w n
+
+-- what the library writes of a number's bytes, which it does, since there is room
+pub hex-given : {A E : Type 0} (r : Result A E) (bytes out : List ℕ) (w n : ℕ) → w ≤ 16 → bytes ≡ to_be_bytes w64 n → (IsOk r ↔ (16 ≡ 2 * length bytes)) → OnOk r (out ≡ encode_lower bytes)
+    → take (16 - (16 - w)) (drop (16 - w) out) ≡ hex w n
+unfolding encode_with
+hex-given (Ok x) bytes out w n h e f g = rw (g, e) (take_rest (encode_lower (to_be_bytes w64 n)) (16 - w) ∙ hex-is w n h)
+hex-given (Err x) bytes out w n h e f g = absurd (let no : false ≡ true = f.1 (rw e) in cc no)

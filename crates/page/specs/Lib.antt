@@ -1,4 +1,4 @@
 -- What gangrun prints, line by line: MODEL 9.
 pub mod Digits
 pub mod Lines
-pub mod Put
+pub mod Page

@@ -2,7 +2,7 @@
 use Rattle.std.specs.Prelude.{ℕ, suc, Bool, true, false, List, [], ◌∷◌, ◌++◌, take}
 use Rattle.method.specs.declared.Row.{Row}
 use Rattle.method.specs.Demand.{is_settled}
-use Rattle.answer.specs.Answer.{shown_of}
+use Rattle.answer.specs.Answer.{shown_of, state_number, stations_shown, stocks_shown}
 use Rattle.text.specs.Text.{LF, tab}
 use Rattle.page.specs.Digits.{decimal, hex}
 
@@ -50,10 +50,10 @@ station_line i row =
     line
     (ST
     ∷ decimal i
-    ∷ decimal (shown_of row.state).number
+    ∷ decimal (state_number (shown_of row.state))
     ∷ decimal row.count
-    ∷ set_shown (is_settled row.state) 4 (shown_of row.state).stations
-    ∷ set_shown (is_settled row.state) 16 (shown_of row.state).stocks
+    ∷ set_shown (is_settled row.state) 4 (stations_shown (shown_of row.state))
+    ∷ set_shown (is_settled row.state) 16 (stocks_shown (shown_of row.state))
     ∷ [])
 
 -- the longest lines: no number has more than five digits, and no code more than 12 bytes

@@ -1,54 +1,95 @@
-// The fields of a line, each with the byte behind it: a tab, or the LF at the line's end.
-ghost use Rattle.std.specs.Prelude.{[], ◌∷◌, ◌++◌, ◌+◌, ◌≤◌, length};
-ghost use Rattle.page.specs.Digits.{decimal};
-ghost use Rattle.page.specs.Lines.{set_shown};
-ghost use Rattle.page.specs.Put.{Put};
+// The page, and the fields of a line put on it.
+ghost use Rattle.std.specs.Prelude.{◌≡◌, ◌≤◌, [], ◌∷◌, map};
+ghost use Rattle.page.specs.Digits.{decimal, hex};
+ghost use Rattle.page.specs.Lines.{line};
+ghost use Rattle.page.specs.Page.{put_behind, field_shown};
 
-use super::digits::{put_digits, width_of};
+use super::PAGE;
+use answer::shown::Shown;
+use arrayvec::ArrayVec;
+use itoa::Buffer;
+use std::io::Write;
 
-// Puts these bytes.
-pub fn put_bytes(page: &mut [u8], at: usize, bytes: &[u8]) -> usize
-    requires { at + length bytes.now ≤ length page.old }
-    ensures { Put page.old at bytes.now page.new result }
-{
-    let mut i = 0;
-    while i < bytes.len() {
-        page[at + i] = bytes[i];
-        i += 1;
+// What is printed so far. There is room for every report, so nothing says how much is left: what has no room is cut off, and in one
+// place it is proved that nothing is.
+#[derive(Drop)]
+pub struct Page {
+    text: ArrayVec<u8, PAGE>,
+}
+
+// A field of a line, behind its word. A set is shown once it has settled.
+#[derive(Clone, Copy)]
+pub(super) enum Field<'a> {
+    Code(&'a [u8]),
+    Number(u16),
+    Stations(Shown),
+    Stocks(Shown),
+}
+
+impl Page {
+    // An empty page.
+    pub(super) fn new() -> Page
+        ensures { result.text.items ≡ [] }
+    {
+        Page {
+            text: ArrayVec::new(),
+        }
     }
-    at + i
-}
 
-// Puts one byte.
-pub fn put_byte(page: &mut [u8], at: usize, byte: u8) -> usize
-    requires { at + 1 ≤ length page.old }
-    ensures { Put page.old at (byte ∷ []) page.new result }
-{
-    page[at] = byte;
-    at + 1
-}
-
-// Puts a number in decimal.
-pub fn put_number(page: &mut [u8], at: usize, x: u16, end: u8) -> usize
-    requires { at + 6 ≤ length page.old }
-    ensures put { Put page.old at (decimal x ++ end ∷ []) page.new result }
-    ensures upper_bound { result ≤ at + 6 }
-{
-    let w = width_of(x as u64);
-    let next = put_digits(page, at, 10, w, x as u64);
-    put_byte(page, next, end)
-}
-
-// Puts a set in hex digits, and `-` until it is settled.
-pub fn put_set(page: &mut [u8], at: usize, settled: bool, w: usize, set: u64, end: u8) -> usize
-    requires { (1 ≤ w) × (at + (w + 1) ≤ length page.old) }
-    ensures put { Put page.old at (set_shown settled w set ++ end ∷ []) page.new result }
-    ensures upper_bound { result ≤ at + (w + 1) }
-{
-    if settled {
-        let next = put_digits(page, at, 16, w, set);
-        return put_byte(page, next, end);
+    // What stands on it.
+    pub fn as_bytes(&self) -> &[u8]
+        ensures { result.now ≡ self.now.text.items }
+    {
+        self.text.as_slice()
     }
-    let next = put_byte(page, at, b'-');
-    put_byte(page, next, end)
+
+    // Puts these bytes. The library's write takes as many as have room, and never fails.
+    fn put(&mut self, bytes: &[u8])
+        ensures { self.new.text.items ≡ put_behind self.old.text.items bytes.now }
+    {
+        let _count = self.text.write(bytes);
+    }
+
+    // Puts a number in decimal. Not by write!: its contract does not say when it succeeds, and a report cannot fail.
+    fn put_number(&mut self, x: u16)
+        ensures { self.new.text.items ≡ put_behind self.old.text.items (decimal x) }
+    {
+        let mut buffer = Buffer::new();
+        self.put(buffer.format(x).as_bytes());
+    }
+
+    // Puts the last w of a set's sixteen hex digits.
+    fn put_hex(&mut self, w: usize, set: u64)
+        requires { w ≤ 16 }
+        ensures { self.new.text.items ≡ put_behind self.old.text.items (hex w set) }
+    {
+        let mut digits = [0u8; 16];
+        let _fits = hex::encode_to_slice(set.to_be_bytes(), &mut digits);
+        self.put(&digits[16 - w..]);
+    }
+
+    // Puts a field.
+    fn put_field(&mut self, field: Field)
+        ensures { self.new.text.items ≡ put_behind self.old.text.items (field_shown field.entry) }
+    {
+        match field {
+            Field::Code(bytes) => self.put(bytes),
+            Field::Number(x) => self.put_number(x),
+            Field::Stations(Shown::Settled { stations, .. }) => self.put_hex(4, stations),
+            Field::Stocks(Shown::Settled { stocks, .. }) => self.put_hex(16, stocks),
+            Field::Stations(_) | Field::Stocks(_) => self.put(b"-"),
+        }
+    }
+
+    // Puts a line: its word, and its fields, each with a tab in front.
+    pub(super) fn put_line(&mut self, word: &[u8], fields: &[Field])
+        ensures { self.new.text.items ≡ put_behind self.old.text.items (line (word.now ∷ map field_shown fields.now)) }
+    {
+        self.put(word);
+        for field in fields {
+            self.put(b"\t");
+            self.put_field(*field);
+        }
+        self.put(b"\n");
+    }
 }

@@ -1,14 +1,14 @@
-// What gangrun prints, line by line, into a page that has room for the longest report.
+// What gangrun prints, line by line, on a page that has room for the longest report.
 #![tactic(auto)]
 
 // Room for the longest report.
 pub const PAGE: usize = 2310;
 
-mod digits;
-mod fields;
+// The page, and the fields of a line.
+pub mod fields;
 
-// The lines, the one of a refusal among them.
+// The lines, and the page of a refusal.
 pub mod lines;
 
-// The report.
+// The page of a report.
 pub mod listing;

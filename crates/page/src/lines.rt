@@ -1,66 +1,56 @@
-// The lines of a report, each put into the page as a whole.
-ghost use Rattle.std.specs.Prelude.{[], ◌∷◌, ◌++◌, ◌+◌, ◌≤◌, length};
-ghost use Rattle.text.specs.Limits.{most_code};
-ghost use Rattle.text.specs.Text.{tab};
-ghost use Rattle.page.specs.Digits.{decimal};
-ghost use Rattle.page.specs.Lines.{refusal_line, run_line, stock_line, station_line, most_run, most_stock, most_station};
-ghost use Rattle.page.specs.Put.{Put};
+// The lines of a report, and the page of a refusal.
+ghost use Rattle.std.specs.Prelude.{◌≡◌, ◌≤◌, length};
+ghost use Rattle.page.specs.Lines.{refusal_line, run_line, stock_line, station_line, most_station};
+ghost use Rattle.page.specs.Page.{put_behind};
 
-use super::PAGE;
-use super::fields::{put_byte, put_bytes, put_number, put_set};
-use method::Row;
+use super::fields::{Field, Page};
+use answer::shown::Shown;
+use method::State;
 
-// Puts a word, which brings its tab, and two numbers behind it.
-fn put_pair(page: &mut [u8], at: usize, word: &[u8], x: u16, y: u16, end: u8) -> usize
-    requires { at + (length word.now + 12) ≤ length page.old }
-    ensures put { Put page.old at (word.now ++ decimal x ++ tab ∷ decimal y ++ end ∷ []) page.new result }
-    ensures upper_bound { result ≤ at + (length word.now + 12) }
-{
-    let a = put_bytes(page, at, word);
-    let b = put_number(page, a, x, b'\t');
-    put_number(page, b, y, end)
-}
+impl Page {
+    // A page with `NO`, number, place.
+    pub fn of_refusal(number: u16, place: u16) -> Page
+        ensures { result.text.items ≡ refusal_line number place }
+    {
+        let mut page = Page::new();
+        page.put_line(b"NO", &[Field::Number(number), Field::Number(place)]);
+        page
+    }
 
-// `NO`, number, place.
-pub fn put_refusal(page: &mut [u8; PAGE], number: u16, place: u16) -> usize
-    ensures { Put page.old 0 (refusal_line number place) page.new result }
-{
-    put_pair(page, 0, b"NO\t", number, place, b'\n')
-}
+    // `RUN`, n, turns, idle turns.
+    #[tactic(auto, unfolding(crate::specs::Lines::run_line))]
+    pub(super) fn put_run(&mut self, n: u16, turns: u16, idle: u16)
+        ensures { self.new.text.items ≡ put_behind self.old.text.items (run_line n turns idle) }
+    {
+        self.put_line(
+            b"RUN",
+            &[Field::Number(n), Field::Number(turns), Field::Number(idle)],
+        );
+    }
 
-// `RUN`, n, turns, idle turns.
-pub(super) fn put_run(page: &mut [u8], n: u16, turns: u16, idle: u16) -> usize
-    requires { most_run ≤ length page.old }
-    ensures put { Put page.old 0 (run_line n turns idle) page.new result }
-    ensures upper_bound { result ≤ most_run }
-{
-    let a = put_pair(page, 0, b"RUN\t", n, turns, b'\t');
-    put_number(page, a, idle, b'\n')
-}
+    // `STOCK`, number, code.
+    #[tactic(auto, unfolding(crate::specs::Lines::stock_line))]
+    pub(super) fn put_stock(&mut self, k: u16, code: &[u8])
+        ensures { self.new.text.items ≡ put_behind self.old.text.items (stock_line k code.now) }
+    {
+        self.put_line(b"STOCK", &[Field::Number(k), Field::Code(code)]);
+    }
 
-// `STOCK`, number, code.
-pub(super) fn put_stock(page: &mut [u8], at: usize, k: u16, code: &[u8]) -> usize
-    requires { (at + most_stock ≤ length page.old) × (length code.now ≤ most_code) }
-    ensures put { Put page.old at (stock_line k code.now) page.new result }
-    ensures upper_bound { result ≤ at + most_stock }
-{
-    let a = put_bytes(page, at, b"STOCK\t");
-    let b = put_number(page, a, k, b'\t');
-    let c = put_bytes(page, b, code);
-    put_byte(page, c, b'\n')
-}
-
-// `ST`, number, state, count, stations set, stocks set.
-pub(super) fn put_station(page: &mut [u8], at: usize, i: u16, row: Row) -> usize
-    requires { at + most_station ≤ length page.old }
-    ensures put { Put page.old at (station_line i row) page.new result }
-    ensures upper_bound { result ≤ at + most_station }
-{
-    let state = row.state;
-    let told = answer::shown::shown_of(state);
-    let settled = told.number == 2;
-    let a = put_pair(page, at, b"ST\t", i, told.number as u16, b'\t');
-    let b = put_number(page, a, row.count, b'\t');
-    let c = put_set(page, b, settled, 4, told.stations, b'\t');
-    put_set(page, c, settled, 16, told.stocks, b'\n')
+    // `ST`, number, state, count, stations set, stocks set.
+    pub(super) fn put_station(&mut self, i: u16, state: State, count: u16)
+        ensures text { self.new.text.items ≡ put_behind self.old.text.items (station_line i (record { state = state; count = count })) }
+        ensures upper_bound { length (station_line i (record { state = state; count = count })) ≤ most_station }
+    {
+        let shown = Shown::from(state);
+        self.put_line(
+            b"ST",
+            &[
+                Field::Number(i),
+                Field::Number(u16::from(u8::from(shown))),
+                Field::Number(count),
+                Field::Stations(shown),
+                Field::Stocks(shown),
+            ],
+        );
+    }
 }

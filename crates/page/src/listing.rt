@@ -1,70 +1,62 @@
-// A line for each stock and for each station, and the whole report.
-ghost use Rattle.std.specs.Prelude.{◌≡◌, ◌+◌, ◌*◌, ◌≤◌, min, length, take};
-ghost use Rattle.text.specs.Limits.{most_stations};
-ghost use Rattle.page.specs.Lines.{numbered, stock_line, station_line, report_lines, most_stock, most_station};
-ghost use Rattle.page.specs.Put.{Put, Celled, codes_from, codes_in};
+// The page of a report.
+ghost use Rattle.std.specs.Prelude.{◌≡◌, ◌*◌, ◌<◌, ◌≤◌, length, take};
+ghost use Rattle.text.specs.Limits.{most_stations, most_stocks};
+ghost use Rattle.page.specs.Lines.{stock_line, station_line, most_station, numbered, report_lines};
+ghost use Rattle.page.specs.Page.{put_behind, code_at, codes_of};
 
-use super::PAGE;
-use super::lines::{put_run, put_station, put_stock};
-use method::Row;
+use super::fields::Page;
+use method::{Row, Run};
 use sets::limits::{CELLS, CODE, STATIONS, STOCKS};
 
-// The lesser of two.
-fn least(a: usize, b: usize) -> usize
-    ensures { result ≡ min a b }
-{
-    if a < b {
-        return a;
-    }
-    b
+// How many stocks there are, and their codes in their cells, each with its length. There are no more stocks than cells, and no code is
+// longer than its cell.
+#[derive(Clone, Copy)]
+pub struct Stocks<'a> {
+    pub count: usize,
+    pub cells: &'a [u8; CELLS],
+    pub lens: &'a [usize; STOCKS],
 }
 
-// A line for each stock, from its cell.
-fn put_stocks(page: &mut [u8], at: usize, count: usize, cells: &[u8], lens: &[usize]) -> usize
-    requires { (at + count * most_stock ≤ length page.old) × Celled cells.now lens.now count }
-    ensures put { Put page.old at (numbered stock_line 0 (codes_from cells.now lens.now 0 count)) page.new result }
-    ensures upper_bound { result ≤ at + count * most_stock }
-{
-    let mut next = at;
-    let mut k = 0;
-    while k < count {
+impl<'a> Stocks<'a> {
+    // The code of stock k.
+    fn code(&self, k: usize) -> &'a [u8]
+        requires { k < most_stocks }
+        ensures { result.now ≡ code_at self.now.cells.now self.now.lens.now k }
+    {
         let start = k * CODE;
-        let end = start + least(lens[k], CODE);
-        next = put_stock(page, next, k as u16, &cells[start..end]);
-        k += 1;
+        &self.cells[start..start + self.lens[k].min(CODE)]
     }
-    next
 }
 
-// A line for each of the first n stations.
-fn put_stations(page: &mut [u8], at: usize, n: usize, rows: [Row; STATIONS]) -> usize
-    requires { (n ≤ most_stations) × (at + n * most_station ≤ length page.old) }
-    ensures { Put page.old at (numbered station_line 1 (take n rows)) page.new result }
-{
-    let mut next = at;
-    let mut i = 0;
-    while i < n {
-        next = put_station(page, next, i as u16 + 1, rows[i]);
-        i += 1;
+impl Page {
+    // A line for each stock. There are no more of them than cells. One loop for these lines and those of the stations would take a
+    // closure over the page, and be no plainer than the two.
+    fn put_stocks(&mut self, stocks: &Stocks)
+        ensures { self.new.text.items ≡ put_behind self.old.text.items (numbered stock_line 0 (codes_of stocks.now)) }
+    {
+        for k in 0..stocks.count.min(STOCKS) {
+            self.put_stock(k as u16, stocks.code(k));
+        }
     }
-    next
-}
 
-// The report of n stations and so many stocks, whose codes stand in cells: every line, from the page's start. There are no more
-// stations than rows, no more stocks than cells, and no code is longer than its cell.
-pub fn put_report(
-    page: &mut [u8; PAGE],
-    n: u8,
-    turns: u16,
-    idle: u16,
-    stocks: usize,
-    cells: &[u8; CELLS],
-    lens: &[usize; STOCKS],
-    rows: [Row; STATIONS],
-) -> usize
-    ensures { Put page.old 0 (report_lines n turns idle (codes_in cells.now lens.now stocks) rows) page.new result }
-{
-    let a = put_run(page, n as u16, turns, idle);
-    let b = put_stocks(page, a, least(stocks, STOCKS), cells, lens);
-    put_stations(page, b, least(n as usize, STATIONS), rows)
+    // A line for each of n stations. There are no more of them than rows.
+    fn put_stations(&mut self, n: u8, rows: &[Row; STATIONS])
+        ensures text { self.new.text.items ≡ put_behind self.old.text.items (numbered station_line 1 (take n rows.now)) }
+        ensures upper_bound { length (numbered station_line 1 (take n rows.now)) ≤ most_stations * most_station }
+    {
+        for (i, row) in rows[..usize::from(n).min(STATIONS)].iter().enumerate() {
+            self.put_station(i as u16 + 1, row.state, row.count);
+        }
+    }
+
+    // A page with the report of a run of so many turns, of which so many were idle: every line.
+    pub fn of_report(run: &Run, turns: u16, idle: u16, stocks: &Stocks) -> Page
+        ensures { result.text.items ≡ report_lines run.now.stations turns idle (codes_of stocks.now) run.now.rows }
+    {
+        let mut page = Page::new();
+        page.put_run(u16::from(run.stations), turns, idle);
+        page.put_stocks(stocks);
+        page.put_stations(run.stations, &run.rows);
+        page
+    }
 }

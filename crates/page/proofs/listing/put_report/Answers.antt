@@ -1,6 +1,0 @@
-use borrow.Author.Rules.{rules}
-use Rattle.page.proofs.Listed.{report-put}
-use Rattle.page.proofs.listing.put_report.Goals as goal
-
-pub returns : goal.returns
-returns c = search (report-put, rules)
