@@ -5,25 +5,23 @@ use mathlib.Core.List.{List, [], ◌∷◌, ◌++◌, map, append_assoc}
 use native.Mathlib.Nat.{add-zero}
 use native.Mathlib.Omega.{arith}
 use lib.ListN.{length, get_or, take, drop}
-use lib.Seq.{sets, length-sets, length-take-le, take_at, drop_at, get_or-drop, drop-drop, take-append_seam}
+use lib.Seq.{length-take-le, take_at, drop_at, get_or-drop, drop-drop, take-append_seam}
+use Rattle.std.specs.Prelude.{Result, Ok, Err}
 use Rattle.text.specs.Limits.{most_stocks, most_turns, most_code}
 use Rattle.text.specs.declared.Fault.{Fault}
-use Rattle.text.specs.declared.Answer.{Answer}
-use Rattle.text.specs.declared.Answer.TheVariants.{Plan, Refused}
+use Rattle.text.specs.declared.Counts.{Counts}
+use Rattle.text.specs.declared.Refusal.{Refusal}
 use Rattle.text.specs.Refusal.{number_of, told}
 use Rattle.text.specs.Buffers.{zeros, padded, cells_of, told_of, sets_after, codes_after, lens_after, turns_after}
 use Rattle.text.specs.Plan.{Held, Reading, plan, refused, reading}
 use Rattle.text.proofs.Answers.{counts-told, refusal-told}
 use Rattle.text.proofs.Lengths.{padded-long}
-use Rattle.report.specs.declared.Printed.{Printed}
 use Rattle.page.specs.Lines.{refusal_line}
-use Rattle.report.specs.Printed.{report, printed, most_printed, answer_of, buffer_of}
-use Rattle.page.specs.Put.{Put, codes_from, codes_in}
+use Rattle.report.specs.Printed.{report, printed}
+use Rattle.page.specs.Page.{codes_from, codes_in}
 use Rattle.report.specs.Ready.{Ready}
 use Rattle.text.specs.Sound.{Sound}
 use Rattle.text.proofs.Outcomes.{sound as plan-sound, place-most}
-use Rattle.report.proofs.Handing.{put_front}
-use Rattle.report.proofs.Sizes.{printed-most}
 
 -- ---- codes back from their cells
 
@@ -50,25 +48,25 @@ module _ (cells lens : List ℕ) where
 
 -- ---- what was read
 
-pub record ReadOff (text : List ℕ) (n stocks turned : ℕ) (sets cells lens turns : List ℕ) : Type 0 where
+pub record ReadOff (text : List ℕ) (read : Counts) (sets cells lens turns : List ℕ) : Type 0 where
   pub of : Held
-  pub read : reading text ≡ plan of
-  pub stations : of.stations ≡ n
-  pub many : length of.stocks.codes ≡ stocks
-  pub made : length of.turns ≡ turned
+  pub is : reading text ≡ plan of
+  pub stations : of.stations ≡ read.stations
+  pub many : length of.stocks.codes ≡ read.stocks
+  pub made : length of.turns ≡ read.turns
   pub sets_are : sets ≡ of.stocks.sets
   pub cells_are : cells ≡ padded (most_stocks * most_code) (cells_of of.stocks.codes)
   pub lens_are : lens ≡ padded most_stocks (map length of.stocks.codes)
   pub turns_are : turns ≡ padded most_turns of.turns
 
-pub read_off : (text : List ℕ) (r : Answer) (n stocks turned : ℕ) (sets cells lens turns a b c d : List ℕ) → r ≡ Plan n stocks turned → told r ≡ told_of (reading text)
+pub read_off : (text : List ℕ) (r : Result Counts Refusal) (read : Counts) (sets cells lens turns a b c d : List ℕ) → r ≡ Ok read → told r ≡ told_of (reading text)
     → sets ≡ sets_after (reading text) a → cells ≡ codes_after (reading text) b → lens ≡ lens_after (reading text) c → turns ≡ turns_after (reading text) d
-    → ReadOff text n stocks turned sets cells lens turns
-read_off text r n stocks turned sets cells lens turns a b c d e f g h i j =
-    let p = counts-told text n stocks turned (sym (ap told e) ∙ f) in
+    → ReadOff text read sets cells lens turns
+read_off text r read sets cells lens turns a b c d e f g h i j =
+    let p = counts-told text read.stations read.stocks read.turns (sym (ap told e) ∙ f) in
     record {
       of = p.holds;
-      read = p.is;
+      is = p.is;
       stations = sym p.stations;
       many = sym p.stocks;
       made = sym p.turns;
@@ -79,40 +77,44 @@ read_off text r n stocks turned sets cells lens turns a b c d e f g h i j =
     }
 
 -- the refusal that was read
-pub refused-off : (text : List ℕ) (r : Answer) (fault : Fault) (place : ℕ) → r ≡ Refused fault place → told r ≡ told_of (reading text)
-    → (f : Fault) × (reading text ≡ refused f place) × (number_of fault ≡ number_of f)
-refused-off text r fault place e t =
-    let g = refusal-told text (number_of fault) place (sym (ap told e) ∙ t) in
-    (g.fault, g.is, g.number_is)
+pub record Refused (text : List ℕ) (why : Refusal) : Type 0 where
+  pub fault : Fault
+  pub is : reading text ≡ refused fault why.place
+  pub number : number_of why.fault ≡ number_of fault
 
-module _ {text : List ℕ} {n stocks turned : ℕ} {sets cells lens turns : List ℕ} (r : ReadOff text n stocks turned sets cells lens turns) where
+pub refused_off : (text : List ℕ) (r : Result Counts Refusal) (why : Refusal) → r ≡ Err why → told r ≡ told_of (reading text) → Refused text why
+refused_off text r why e t =
+    let g = refusal-told text (number_of why.fault) why.place (sym (ap told e) ∙ t) in
+    record { fault = g.fault; is = g.is; number = g.number_is }
+
+module _ {text : List ℕ} {read : Counts} {sets cells lens turns : List ℕ} (r : ReadOff text read sets cells lens turns) where
   sound : Sound r.of
-  sound = plan-sound text r.of r.read
+  sound = plan-sound text r.of r.is
 
-  pub turns-long : turned ≤ length turns
+  pub turns-long : read.turns ≤ length turns
   turns-long =
       let e : length turns ≡ most_turns = ap length r.turns_are ∙ padded-long most_turns r.of.turns sound.turns.most in
       let f = sound.turns.most in
       let m = r.made in
       omega arith
 
-  pub prefix-long : turned ≡ length (take turned turns)
-  prefix-long = sym (length-take-le turned turns turns-long)
+  pub prefix-long : read.turns ≡ length (take read.turns turns)
+  prefix-long = sym (length-take-le read.turns turns turns-long)
 
-  turns-back : take turned turns ≡ r.of.turns
+  turns-back : take read.turns turns ≡ r.of.turns
   unfolding padded
-  turns-back = ap (take turned) r.turns_are ∙ take_at r.of.turns (zeros (most_turns - length r.of.turns)) turned r.made
+  turns-back = ap (take read.turns) r.turns_are ∙ take_at r.of.turns (zeros (most_turns - length r.of.turns)) read.turns r.made
 
-  codes-back : codes_in cells lens stocks ≡ r.of.stocks.codes
+  codes-back : codes_in cells lens read.stocks ≡ r.of.stocks.codes
   unfolding padded
   codes-back =
       let m = sound.stocks.codes.most in
       let k = r.many in
-      let all : min stocks most_stocks ≡ length r.of.stocks.codes = omega arith in
+      let all : min read.stocks most_stocks ≡ length r.of.stocks.codes = omega arith in
       ap (codes_from cells lens 0) all
       ∙ cells-back cells lens 0 r.of.stocks.codes (zeros (most_stocks * most_code - length (cells_of r.of.stocks.codes))) (zeros (most_stocks - length (map length r.of.stocks.codes))) (λ j l. (sound.stocks.codes.good j l).most) r.cells_are r.lens_are
 
-  pub ready : Ready n sets (take turned turns)
+  pub ready : Ready read.stations sets (take read.turns turns)
   ready =
       record {
         high = rw (← r.stations) sound.most;
@@ -121,35 +123,14 @@ module _ {text : List ℕ} {n stocks turned : ℕ} {sets cells lens turns : List
         named = rw (turns-back, ← r.stations) sound.turns.named;
       }
 
-  pub report-is : report n sets (codes_in cells lens stocks) (take turned turns) ≡ printed text
+  pub report-is : report read.stations sets (codes_in cells lens read.stocks) (take read.turns turns) ≡ printed text
   unfolding printed
-  report-is = rw (codes-back, turns-back, r.sets_are, ← r.stations, r.read)
+  report-is = rw (codes-back, turns-back, r.sets_are, ← r.stations, r.is)
 
--- ---- what stands in the page is handed out
+module _ {text : List ℕ} {why : Refusal} (r : Refused text why) where
+  pub refusal-is : refusal_line (number_of why.fault) why.place ≡ printed text
+  unfolding printed
+  refusal-is = rw (r.is, r.number)
 
-module _ (text : List ℕ) {page last : List ℕ} {end : ℕ} (put : Put page 0 (printed text) last end) (long : length page ≡ most_printed) where
-  front : last ≡ printed text ++ drop (length (printed text)) page
-  front = put_front put (let m = printed-most text in omega arith)
-
-  end_is : end ≡ length (printed text)
-  end_is = let m = put.moved in omega arith
-
-  pub whole-text : take end last ≡ printed text
-  whole-text = ap (take end) front ∙ take_at (printed text) (drop (length (printed text)) page) end (sym end_is)
-
-  pub end-within : end ≤ length last
-  end-within = let m = printed-most text in let k = end_is in let l = ap length put.laid ∙ length-sets page 0 (printed text) in omega arith
-
-  pub end-long : end ≡ length (take end last)
-  end-long = sym (length-take-le end last end-within)
-
-  pub given_out : (out : List ℕ) {last' : List ℕ} {a : Printed} → (a ≡ answer_of (take end last) (length out)) × (last' ≡ buffer_of (take end last) out)
-      → (a ≡ answer_of (printed text) (length out)) × (last' ≡ buffer_of (printed text) out)
-  given_out out e = (rw (← whole-text) e.0, rw (← whole-text) e.1)
-
-pub refusal_is : (text : List ℕ) (fault f : Fault) (number place : ℕ) → reading text ≡ refused f place → number_of fault ≡ number_of f → number ≡ number_of fault → refusal_line number place ≡ printed text
-unfolding printed
-refusal_is text fault f number place e g h = rw (e, h, g)
-
-pub place-small : (text : List ℕ) (f : Fault) (place : ℕ) → reading text ≡ refused f place → place < 65536
-place-small text f place e = let m = place-most text f place e in omega arith
+  pub place-small : why.place < 65536
+  place-small = let m = place-most text r.fault why.place r.is in omega arith

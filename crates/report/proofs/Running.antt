@@ -5,7 +5,9 @@ use mathlib.Core.Bool.{false}
 use mathlib.Core.List.{List}
 use native.Mathlib.Nat.{le_refl}
 use native.Mathlib.Omega.{arith}
-use lib.ListN.{length, get_or}
+use lib.ListN.{length, get_or, take}
+use Rattle.std.specs.List.{sum_by}
+use Rattle.method.specs.declared.Row.{Row}
 use Rattle.method.specs.declared.Did.{Did}
 use Rattle.method.specs.declared.Did.TheVariants.{Operation, Idle, Unwritten, Nobody}
 use Rattle.method.specs.declared.Run.{Run}
@@ -13,6 +15,7 @@ use Rattle.method.specs.Board.{levels, registers, fresh}
 use Rattle.method.specs.Turn.{turn, after}
 use Rattle.method.specs.Demand.{Fits, Station, did_of, idle_turns, counts_of}
 use Rattle.method.proofs.Demand3.{fits-board, counts-add-up, never-unwritten}
+use Rattle.method.proofs.Moments.{always-sound}
 use Rattle.turns.specs.declared.playing.Played.{Played}
 use Rattle.method.specs.First.{first_from}
 use Rattle.method.proofs.Firsts.{first-none}
@@ -22,10 +25,8 @@ use Rattle.verdict.proofs.Judging.{none-is-bad}
 use Rattle.run.specs.Call.{reads_unwritten, first_unwritten}
 use Rattle.run.proofs.Agree.{stepped-after, stops_first}
 use Rattle.page.specs.Lines.{report_lines}
-use Rattle.page.specs.Put.{Put}
-use Rattle.page.proofs.Laying.{put_same}
 use Rattle.report.specs.Printed.{report}
-use Rattle.report.specs.Ready.{counts_in}
+use Rattle.report.specs.Ready.{Ready}
 use Rattle.report.proofs.Counting.{counts-rows}
 
 not-unwritten : (d : Did) → (d ≡ Unwritten → ⊥) → is_unwritten d ≡ false
@@ -34,12 +35,12 @@ not-unwritten Idle h = refl
 not-unwritten Unwritten h = absurd (h refl)
 not-unwritten Nobody h = refl
 
-module _ (n : ℕ) (sets turns : List ℕ) (high : n ≤ 16) (sixteen : length sets ≡ 16) (few : length turns ≤ 4096) (named : (t : ℕ) → t < length turns → Station n (get_or turns t 0)) where
+module _ (n : ℕ) (sets turns : List ℕ) (ready : Ready n sets turns) where
   fits : Fits levels registers n sets
-  fits = fits-board n sets high (omega arith)
+  fits = fits-board n sets ready.high (omega (arith, ready.high, ready.sets_long))
 
   past : length turns ≤ first_bad n turns
-  past = none-is-bad n turns named
+  past = none-is-bad n turns ready.named
 
   -- no turn reads a line never written, so every turn is made
   all_made : stops_at (fresh n sets) turns ≡ length turns
@@ -48,34 +49,40 @@ module _ (n : ℕ) (sets turns : List ℕ) (high : n ≤ 16) (sixteen : length s
       let e : first_from (reads_unwritten (fresh n sets) turns) 0 (length turns) ≡ 0 + length turns =
       first-none (reads_unwritten (fresh n sets) turns) 0 (length turns) (λ u a b. not-unwritten (turn (after (fresh n sets) turns u) (get_or turns u 0)).did (never-unwritten fits turns u)) in
       let z : 0 + length turns ≡ length turns = omega arith in
-      stops_first n sets turns high sixteen few past ∙ e ∙ z
+      stops_first n sets turns ready.high ready.sets_long ready.few past ∙ e ∙ z
 
   pub ran : (start : Run) (played : Played) → start ≡ fresh n sets → played ≡ played_of start turns → played.run ≡ after (fresh n sets) turns (length turns)
   ran start played s p =
       ap (λ (x : Played). x.run) p ∙ ap (λ (r : Run). stepped r turns (stops_at r turns)) s ∙ ap (stepped (fresh n sets) turns) all_made
-      ∙ stepped-after n sets turns high sixteen few past (length turns) (le_refl (length turns))
+      ∙ stepped-after n sets turns ready.high ready.sets_long ready.few past (length turns) (le_refl (length turns))
 
-  pub counts-and-idle : (start : Run) (played : Played) (counts : ℕ) → start ≡ fresh n sets → played ≡ played_of start turns → counts ≡ counts_in played.run.rows n
-      → counts + idle_turns (fresh n sets) turns (length turns) ≡ length turns
+  rows-there : length (after (fresh n sets) turns (length turns)).rows ≡ 16
   unfolding fresh
-  counts-and-idle start played counts s p q =
-      let made : played.run ≡ after (fresh n sets) turns (length turns) = ran start played s p in
-      let sum : counts ≡ counts_of (after (fresh n sets) turns (length turns)) n = q ∙ counts-rows played.run n ∙ ap (λ (r : Run). counts_of r n) made in
-      let all : counts_of (after (fresh n sets) turns (length turns)) n + idle_turns (fresh n sets) turns (length turns) ≡ length turns = counts-add-up fits turns (length turns) named in
-      rw sum all
+  rows-there = (always-sound levels registers n sets fits turns (length turns)).shape.rows ∙ ready.sets_long
 
-  pub idle-is : (start : Run) (played : Played) (counts : ℕ) → start ≡ fresh n sets → played ≡ played_of start turns → counts ≡ counts_in played.run.rows n
-      → length turns - counts ≡ idle_turns (fresh n sets) turns (length turns)
-  idle-is start played counts s p q = let e = counts-and-idle start played counts s p q in omega arith
+  stations-there : (after (fresh n sets) turns (length turns)).stations ≡ n
+  unfolding fresh
+  stations-there = (always-sound levels registers n sets fits turns (length turns)).shape.counted
 
-  -- the lines of what was played are the report
-  pub report-put : (page last : List ℕ) (r counts : ℕ) (codes : List (List ℕ)) (start : Run) (played : Played) → start ≡ fresh n sets → played ≡ played_of start turns → counts ≡ counts_in played.run.rows n
-      → Put page 0 (report_lines n (length turns) (length turns - counts) codes played.run.rows) last r → Put page 0 (report n sets codes turns) last r
-  unfolding report
-  report-put page last r counts codes start played s e c f =
-      let idle : length turns - counts ≡ idle_turns (fresh n sets) turns (length turns) = idle-is start played counts s e c in
-      let made : played.run ≡ after (fresh n sets) turns (length turns) = ran start played s e in
-      put_same
-      (ap (λ (i : ℕ). report_lines n (length turns) i codes played.run.rows) idle
-      ∙ ap (λ (x : Run). report_lines n (length turns) (idle_turns (fresh n sets) turns (length turns)) codes x.rows) made)
-      f
+  module _ (start : Run) (played : Played) (s : start ≡ fresh n sets) (p : played ≡ played_of start turns) where
+    made : played.run ≡ after (fresh n sets) turns (length turns)
+    made = ran start played s p
+
+    pub rows-long : length played.run.rows ≡ 16
+    rows-long = ap (λ (r : Run). length r.rows) made ∙ rows-there
+
+    pub counts-and-idle : sum_by (λ (r : Row). r.count) (take n played.run.rows) + idle_turns (fresh n sets) turns (length turns) ≡ length turns
+    unfolding fresh
+    counts-and-idle =
+        let sum : sum_by (λ (r : Row). r.count) (take n played.run.rows) ≡ counts_of (after (fresh n sets) turns (length turns)) n =
+        counts-rows played.run n (omega (arith, rows-long, ready.high)) ∙ ap (λ (r : Run). counts_of r n) made in
+        let all : counts_of (after (fresh n sets) turns (length turns)) n + idle_turns (fresh n sets) turns (length turns) ≡ length turns = counts-add-up fits turns (length turns) ready.named in
+        rw sum all
+
+    -- the lines of what was played are the report
+    pub report-is : (text : List ℕ) (counts : ℕ) (codes : List (List ℕ)) → counts ≡ sum_by (λ (r : Row). r.count) (take n played.run.rows)
+        → text ≡ report_lines played.run.stations (length turns) (length turns - counts) codes played.run.rows → text ≡ report n sets codes turns
+    unfolding report
+    report-is text counts codes c f =
+        let idle : length turns - counts ≡ idle_turns (fresh n sets) turns (length turns) = omega (arith, counts-and-idle) in
+        f ∙ rw (idle, made, stations-there)

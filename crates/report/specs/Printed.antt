@@ -1,13 +1,12 @@
 -- From a plan's text to the printed text, MODEL 9: one definition.
-use Rattle.std.specs.Prelude.{ℕ, ◌+◌, ◌*◌, cond, List, ◌++◌, leb, length, drop}
+use Rattle.std.specs.Prelude.{ℕ, ◌+◌, ◌*◌, cond, List, ◌++◌, leb, length, drop, Result, Ok, Err}
 use Rattle.method.specs.Board.{fresh}
 use Rattle.method.specs.Turn.{after}
 use Rattle.method.specs.Demand.{idle_turns}
 use Rattle.text.specs.Limits.{most_stations, most_stocks}
 use Rattle.text.specs.Refusal.{number_of}
 use Rattle.text.specs.Plan.{Reading, plan, refused, reading}
-use Rattle.report.specs.declared.Printed.{Printed}
-use Rattle.report.specs.declared.Printed.TheVariants.{Whole, TooSmall}
+use Rattle.report.specs.declared.TooSmall.{TooSmall}
 use Rattle.page.specs.Lines.{refusal_line, report_lines, most_run, most_stock, most_station}
 
 -- the report of n stations with these input sets, the stocks' codes and the turns
@@ -28,8 +27,8 @@ abbrev pub most_printed : ℕ
 most_printed = most_run + most_stocks * most_stock + most_stations * most_station
 
 -- how a text is handed out in a lent buffer: its length, or that the buffer is too small
-unfoldable pub answer_of : List ℕ → ℕ → Printed
-answer_of text room = cond (leb (length text) room) (Whole (length text)) TooSmall
+unfoldable pub answer_of : List ℕ → ℕ → Result ℕ TooSmall
+answer_of text room = cond (leb (length text) room) (Ok (length text)) (Err (record {}))
 
 -- bytes behind the text stay as they were, and so do all of a buffer that is too small
 unfoldable pub buffer_of : List ℕ → List ℕ → List ℕ

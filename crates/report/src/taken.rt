@@ -1,0 +1,43 @@
+// A plan that is taken, and the report of its run.
+ghost use Rattle.std.specs.Prelude.{◌≡◌, ◌^◌, ◌<◌};
+ghost use Rattle.std.specs.List.{sum_by};
+ghost use Rattle.page.specs.Page.{codes_of};
+ghost use Rattle.report.specs.Printed.{report};
+ghost use Rattle.report.specs.Ready.{Ready};
+
+use board::start::fresh;
+use method::Row;
+use page::fields::Page;
+use page::listing::Stocks;
+use sets::limits::STATIONS;
+use turns::playing::play_out;
+
+// A plan as it was read: how many stations, each one's input set, the stocks, the turns.
+#[derive(Clone, Copy)]
+pub(super) struct Taken<'a> {
+    pub stations: u8,
+    pub sets: [u64; STATIONS],
+    pub stocks: Stocks<'a>,
+    pub turns: &'a [u8],
+}
+
+// The turns that were operations: the rows' counts, added up.
+fn counted(rows: &[Row]) -> usize
+    requires { sum_by (λ row. row.count) rows.now < 2 ^ 64 }
+    ensures { result ≡ sum_by (λ row. row.count) rows.now }
+{
+    rows.iter().map(|row| usize::from(row.count)).sum()
+}
+
+impl Taken<'_> {
+    // The page with the report of its run.
+    pub(super) fn report(&self) -> Page
+        requires { Ready self.now.stations self.now.sets self.now.turns.now }
+        ensures { result.text.items ≡ report self.now.stations self.now.sets (codes_of self.now.stocks) self.now.turns.now }
+    {
+        let turns = self.turns;
+        let run = play_out(fresh(self.stations, self.sets), turns).run;
+        let idle = turns.len() - counted(&run.rows[..usize::from(self.stations)]);
+        Page::of_report(&run, turns.len() as u16, idle as u16, &self.stocks)
+    }
+}
