@@ -1,7 +1,6 @@
 -- Laws for the proofs of this crate.
 mod Placing
-mod Moving
 mod Record
+mod Holding
 mod Stepping
-mod Shape
 pub mod Orders

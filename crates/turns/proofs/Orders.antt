@@ -7,7 +7,7 @@ use native.Mathlib.Numerals.{add-one}
 use borrow.Author.Tests.{leb-true}
 use lib.Dec.{T as Holds, leb, ltb}
 use lib.ListN.{length, get_or}
-use Rattle.method.specs.declared.Line.{Line}
+use Rattle.std.specs.Prelude.{Option, None, Some}
 use Rattle.method.specs.declared.State.{State}
 use Rattle.method.specs.declared.State.TheVariants.{NotBegun, Uniting, Gathering, Settled}
 use Rattle.method.specs.declared.Op.{Op}
@@ -24,7 +24,7 @@ use Rattle.method.proofs.Firsts.{Passed, passed_none, passed-more, passed-stop, 
 use Rattle.turns.specs.Moves.{count_end}
 use Rattle.turns.specs.Step.{step_of}
 use Rattle.turns.specs.Places.{seat_at}
-use Rattle.turns.proofs.Placing.{seat-own}
+use Rattle.turns.proofs.Placing.{seat_own}
 use Rattle.turns.specs.Playing.{stepped, is_unwritten, unwritten_step, stops_at, played_of}
 
 -- a turn that leaves the record as it is, and would read no line never written
@@ -70,16 +70,16 @@ module _ (run : Run) (turns : List ℕ) where
 
 -- a turn that would read a line never written leaves the record as it is
 module _ (run : Run) (i : ℕ) where
-  unwritten-read : (l : Line) (w : Bool) → is_unwritten (read_line run i l w).did ≡ true → (read_line run i l w).run ≡ run
-  unwritten-read l true e = absurd (subst (λ (z : Bool). Holds z) (sym e) tt)
-  unwritten-read l false e = refl
+  unwritten-read : (l : Option ℕ) → is_unwritten (read_line run i l).did ≡ true → (read_line run i l).run ≡ run
+  unwritten-read (Some s) e = absurd (subst (λ (z : Bool). Holds z) (sym e) tt)
+  unwritten-read None e = refl
 
   unwritten-op : (op : Op) → is_unwritten (perform run i op).did ≡ true → (perform run i op).run ≡ run
   unfolding perform
   unwritten-op (Post stocks) e = absurd (subst (λ (z : Bool). Holds z) (sym e) tt)
   unwritten-op (Write k c j v) e = absurd (subst (λ (z : Bool). Holds z) (sym e) tt)
   unwritten-op (Read k c j) e = absurd (subst (λ (z : Bool). Holds z) (sym e) tt)
-  unwritten-op (ReadLine j) e = unwritten-read (line_of run j) (line_of run j).written e
+  unwritten-op (ReadLine j) e = unwritten-read (line_of run j) e
   unwritten-op Rest e = refl
 
   pub unwritten-stays : is_unwritten (step_of run i).did ≡ true → (step_of run i).run ≡ run
@@ -120,7 +120,7 @@ module _ (run : Run) (rows : length run.rows ≡ 16) (i : ℕ) where
 
       at : (x y : Bool) → leb 1 i ≡ x → leb i 16 ≡ y → Still run (step_of run i)
       at true true f g =
-          let settled : is_settled (row_of run i).state ≡ true = subst (λ (n : ℕ). is_settled (get_or run.rows n (not_begun 0)).state ≡ true) (seat-own i (leb-true 1 i f) (leb-true i 16 g)) e in
+          let settled : is_settled (row_of run i).state ≡ true = subst (λ (n : ℕ). is_settled (get_or run.rows n (not_begun 0)).state ≡ true) (seat_own i (leb-true 1 i f) (leb-true i 16 g)) e in
           subst (λ (op : Op). Still run (cond (ltb (row_of run i).count count_end) (cond (named run i) (perform run i op) (turned run Nobody)) (turned run Nobody))) (sym (settled-op (row_of run i).state settled)) (idle (ltb (row_of run i).count count_end) (named run i))
       at true false f g = nobody (rw (rows, g) (and-false (leb 1 i && leb i run.stations)))
       at false y f g = nobody (rw f)

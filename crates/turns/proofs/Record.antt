@@ -1,20 +1,14 @@
 -- The run record with another board, other lines, other rows, or another set in one register.
-use mathlib.Core.Path.{◌≡◌, ap, ◌∙◌}
 use Prim.Native.Nat.{ℕ}
 use mathlib.Core.List.{List}
 use lib.ListN.{get_or, set}
-use lib.Seq.{set-get_or}
 use Rattle.method.specs.declared.Level.{Level}
-use Rattle.method.specs.declared.Line.{Line}
 use Rattle.method.specs.declared.Row.{Row}
 use Rattle.method.specs.declared.Run.{Run}
 use Rattle.method.specs.Board.{empty_level}
 
 abbrev pub with_board : Run → List Level → Run
 with_board run b = record { stations = run.stations; depth = run.depth; board = b; lines = run.lines; rows = run.rows }
-
-abbrev pub with_lines : Run → List Line → Run
-with_lines run l = record { stations = run.stations; depth = run.depth; board = run.board; lines = l; rows = run.rows }
 
 abbrev pub with_rows : Run → List Row → Run
 with_rows run r = record { stations = run.stations; depth = run.depth; board = run.board; lines = run.lines; rows = r }
@@ -25,6 +19,3 @@ level_at run l = get_or run.board l (empty_level 0)
 
 abbrev pub with_cell : Run → ℕ → ℕ → ℕ → Run
 with_cell run l p v = with_board run (set run.board l (record { sets = set (level_at run l).sets p v }))
-
-pub same-cell : (run : Run) (l p : ℕ) → with_cell run l p (get_or (level_at run l).sets p 0) ≡ run
-same-cell run l p = ap (λ (s : List ℕ). with_board run (set run.board l (record { sets = s }))) (set-get_or (level_at run l).sets p 0) ∙ ap (λ (ys : List Level). with_board run ys) (set-get_or run.board l (empty_level 0))

@@ -1,20 +1,11 @@
 // Turns on the run record, in place.
 #![tactic(auto)]
 
-// A station's row.
-mod rows;
-
 // Where on the record a turn reads and writes.
 mod places;
 
-// A station's count.
-mod counts;
-
-// A turn on a register.
-mod registers;
-
-// A turn on a line.
-mod lines;
+// The registers and the lines of the record.
+mod cells;
 
 // One turn.
 mod turning;
