@@ -7,7 +7,7 @@ use super::taken::Taken;
 use page::fields::Page;
 use page::listing::Stocks;
 use sets::limits::{CELLS, STATIONS, STOCKS, TURNS};
-use text::{Counts, Refusal};
+use text::Refusal;
 
 // The page with the text that is printed of a plan's text.
 fn printed(text: &[u8]) -> Page
@@ -17,24 +17,20 @@ fn printed(text: &[u8]) -> Page
     let mut cells = [0u8; CELLS];
     let mut lens = [0usize; STOCKS];
     let mut turns = [0u8; TURNS];
-    let read = plan::read_plan(text, &mut sets, &mut cells, &mut lens, &mut turns);
-    match read {
-        Ok(counts) => {
-            let stocks = Stocks {
+    match plan::read_plan(text, &mut sets, &mut cells, &mut lens, &mut turns) {
+        Ok(counts) => Taken {
+            stations: counts.stations,
+            sets,
+            stocks: Stocks {
                 count: counts.stocks,
                 cells: &cells,
                 lens: &lens,
-            };
-            Taken {
-                stations: counts.stations,
-                sets,
-                stocks,
-                turns: &turns[..counts.turns],
-            }
-            .report()
+            },
+            turns: &turns[..counts.turns],
         }
-        Err(refusal) => {
-            Page::of_refusal(u16::from(u8::from(refusal.fault)), refusal.place as u16)
+        .report(),
+        Err(Refusal { fault, place }) => {
+            Page::of_refusal(u16::from(u8::from(fault)), place as u16)
         }
     }
 }

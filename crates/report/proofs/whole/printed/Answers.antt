@@ -5,14 +5,14 @@ use Rattle.report.proofs.whole.printed.Goals as goal
 use Rattle.report.proofs.whole.printed.Goals.{In-Ok, In-Err}
 
 -- what a plan that was read hands out
-off : (c : In-Ok) → ReadOff c.args.text.now c.in-Ok.counts c.read_plan-read.new.sets c.read_plan-read.new.codes c.read_plan-read.new.lens c.read_plan-read.new.turns
+off : (c : In-Ok) → ReadOff c.args.text.now c.in-Ok.counts c.read_plan.new.sets c.read_plan.new.codes c.read_plan.new.lens c.read_plan.new.turns
 off c =
-    let e = c.read_plan-read.ensures in
-    read_off _ c.read_plan-read.result _ _ _ _ _ _ _ _ _ c.in-Ok.is e.answer e.sets e.codes e.lens e.turns
+    let e = c.read_plan.ensures in
+    read_off _ c.read_plan.result _ _ _ _ _ _ _ _ _ c.in-Ok.is e.answer e.sets e.codes e.lens e.turns
 
 -- why it was refused
-why : (c : In-Err) → Refused c.args.text.now c.in-Err.refusal
-why c = refused_off _ c.read_plan-read.result _ c.in-Err.is c.read_plan-read.ensures.answer
+why : (c : In-Err) → Refused c.args.text.now c.in-Err.field-0
+why c = refused_off _ c.read_plan.result _ c.in-Err.is c.read_plan.ensures.answer
 
 pub slice_bounds-turns-end : goal.slice_bounds-turns-end
 slice_bounds-turns-end c = turns-long (off (goal.at.slice_bounds-turns-end c).In-Ok)
@@ -23,8 +23,8 @@ slice_bounds-report-end c = prefix-long (off (goal.at.slice_bounds-report-end c)
 pub report-requires : goal.report-requires
 report-requires c = ready (off (goal.at.report-requires c).In-Ok)
 
-pub overflow_cast-refusal : goal.overflow_cast-refusal
-overflow_cast-refusal c = record { fits = place-small (why (goal.at.overflow_cast-refusal c).In-Err) }
+pub overflow_cast-place : goal.overflow_cast-place
+overflow_cast-place c = record { fits = place-small (why (goal.at.overflow_cast-place c).In-Err) }
 
 pub returns-in-Ok : goal.returns-in-Ok
 returns-in-Ok c = c.report.ensures ∙ report-is (off (goal.at.returns-in-Ok c).In-Ok)
