@@ -67,20 +67,20 @@ tabbed-last (g ∷ fs) f = ap (λ (l : List ℕ). tab ∷ l) (append_assoc g (ta
 abbrev pub begun : List ℕ → List Field → ℕ → List ℕ
 begun word fields i = word ++ tabbed (map field_shown (take i fields))
 
-pub none-begun : (start page word : List ℕ) (fields : List Field) → page ≡ put_behind start word → page ≡ put_behind start (begun word fields 0)
-none-begun start page word fields e = e ∙ ap (put_behind start) (sym (append-nil word))
+pub none_begun : (start page word : List ℕ) (fields : List Field) → page ≡ put_behind start word → page ≡ put_behind start (begun word fields 0)
+none_begun start page word fields e = e ∙ ap (put_behind start) (sym (append-nil word))
 
-pub one-field : (start page mid last word : List ℕ) (fields : List Field) (i : ℕ) (d : Field) → i < length fields → page ≡ put_behind start (begun word fields i)
+pub one_field : (start page mid last word : List ℕ) (fields : List Field) (i : ℕ) (d : Field) → i < length fields → page ≡ put_behind start (begun word fields i)
     → mid ≡ put_behind page (tab ∷ []) → last ≡ put_behind mid (field_shown (get_or fields i d)) → last ≡ put_behind start (begun word fields (i + 1))
-one-field start page mid last word fields i d h e f g =
+one_field start page mid last word fields i d h e f g =
     let shown : List ℕ = field_shown (get_or fields i d) in
     let so_far : List (List ℕ) = map field_shown (take i fields) in
     behind_then start page last (begun word fields i) (tab ∷ shown) (begun word fields (i + 1)) e (behind_then page mid last (tab ∷ []) shown (tab ∷ shown) f g refl)
     (append_assoc word (tabbed so_far) (tab ∷ shown)
     ∙ ap (λ (l : List ℕ). word ++ l) (tabbed-last so_far shown ∙ ap tabbed (sym (map_more field_shown fields i d h))))
 
-pub line-put : (start page last word : List ℕ) (fields : List Field) (i : ℕ) → length fields ≤ i → page ≡ put_behind start (begun word fields i) → last ≡ put_behind page (LF ∷ [])
+pub line_put : (start page last word : List ℕ) (fields : List Field) (i : ℕ) → length fields ≤ i → page ≡ put_behind start (begun word fields i) → last ≡ put_behind page (LF ∷ [])
     → last ≡ put_behind start (line (word ∷ map field_shown fields))
-line-put start page last word fields i h e f =
+line_put start page last word fields i h e f =
     behind_then start page last (begun word fields i) (LF ∷ []) (line (word ∷ map field_shown fields)) e f
     (ap (λ (fs : List Field). word ++ tabbed (map field_shown fs) ++ LF ∷ []) (take_all i fields h) ∙ line-is word (map field_shown fields))

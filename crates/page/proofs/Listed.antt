@@ -23,10 +23,10 @@ use Rattle.page.proofs.Sizes.{refusal-most, lines-most}
 
 -- ---- a refusal, a station
 
-pub refusal-put : (start last : List ℕ) (number place : ℕ) → number < 65536 → place < 65536 → start ≡ [] → last ≡ put_behind start (line (NO ∷ decimal number ∷ decimal place ∷ []))
+pub refusal_put : (start last : List ℕ) (number place : ℕ) → number < 65536 → place < 65536 → start ≡ [] → last ≡ put_behind start (line (NO ∷ decimal number ∷ decimal place ∷ []))
     → last ≡ refusal_line number place
 unfolding refusal_line
-refusal-put start last number place h k e f =
+refusal_put start last number place h k e f =
     f ∙ rw e (all-put (refusal_line number place) (refusal-most number place (omega arith) (omega arith)))
 
 settled_too : (s : State) → has_settled (shown_of s) ≡ is_settled s
@@ -35,11 +35,11 @@ settled_too (Uniting k own other side round) = refl
 settled_too (Gathering S j got) = refl
 settled_too (Settled S got) = refl
 
-pub station-put : (start last : List ℕ) (i : ℕ) (row : Row) (told : Shown) (state wide : ℕ) → told ≡ shown_of row.state → state ≡ state_number told → wide ≡ state
+pub station_put : (start last : List ℕ) (i : ℕ) (row : Row) (told : Shown) (state wide : ℕ) → told ≡ shown_of row.state → state ≡ state_number told → wide ≡ state
     → last ≡ put_behind start (line (ST ∷ decimal i ∷ decimal wide ∷ decimal row.count ∷ set_shown (has_settled told) 4 (stations_shown told) ∷ set_shown (has_settled told) 16 (stocks_shown told) ∷ []))
     → last ≡ put_behind start (station_line i row)
 unfolding station_line
-station-put start last i row told state wide e f g h = h ∙ rw (g, f, e, settled_too row.state)
+station_put start last i row told state wide e f g h = h ∙ rw (g, f, e, settled_too row.state)
 
 -- ---- a line more
 
@@ -126,11 +126,11 @@ module _ (rows : List Row) where
 
 -- ---- the report
 
-pub report-put : (n wide turns idle stocks : ℕ) (cells lens none a b last : List ℕ) (rows : List Row) → wide < 65536 → turns < 65536 → idle < 65536 → none ≡ [] → wide ≡ n
+pub report_put : (n wide turns idle stocks : ℕ) (cells lens none a b last : List ℕ) (rows : List Row) → wide < 65536 → turns < 65536 → idle < 65536 → none ≡ [] → wide ≡ n
     → a ≡ put_behind none (run_line wide turns idle) → b ≡ put_behind a (numbered stock_line 0 (codes_in cells lens stocks)) → last ≡ put_behind b (numbered station_line 1 (take n rows))
     → length (numbered station_line 1 (take n rows)) ≤ 16 * most_station → last ≡ report_lines n turns idle (codes_in cells lens stocks) rows
 unfolding report_lines
-report-put n wide turns idle stocks cells lens none a b last rows h k l e w f g i short =
+report_put n wide turns idle stocks cells lens none a b last rows h k l e w f g i short =
     let codes : List (List ℕ) = codes_in cells lens stocks in
     let run : List ℕ = run_line n turns idle in
     let few : length codes ≡ min stocks 64 = codes-length cells lens 0 (min stocks 64) in

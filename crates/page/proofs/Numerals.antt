@@ -58,15 +58,15 @@ below-power : (n : ℕ) → n < 10 ^ n
 below-power zero = omega arith
 below-power (suc n) = let ih = below-power n in rw (pow-succ' 10 n) (omega arith)
 
-pub decimal-is : (x : ℕ) → x < 2 ^ 64 → printed x ≡ decimal x
+pub decimal_is : (x : ℕ) → x < 2 ^ 64 → printed x ≡ decimal x
 unfolding digits width_in width
-decimal-is zero h = decimal_digit 0 (omega arith)
-decimal-is (suc x) h =
+decimal_is zero h = decimal_digit 0 (omega arith)
+decimal_is (suc x) h =
     let few : length (printed (suc x)) ≤ suc x = length-decimal-le (suc x) (suc x) (omega arith) (below-power (suc x)) h in
     sym (decimal_from_appends (λ (k n : ℕ). digits 10 (width_in k n) n) appends (suc x) (suc x) h few)
 
 pub decimal-five : (x : ℕ) → x < 100000 → length (decimal x) ≤ 5
-decimal-five x h = rw (← decimal-is x (omega arith)) (length-decimal-le 5 x (omega arith) h (omega arith))
+decimal-five x h = rw (← decimal_is x (omega arith)) (length-decimal-le 5 x (omega arith) h (omega arith))
 
 -- ---- hex
 
@@ -108,8 +108,8 @@ hex-is w n h =
     ap (drop (16 - w)) (hex-bytes 8 n ∙ ap (λ (m : ℕ). digits 16 m n) (sym all)) ∙ digits-last 16 (16 - w) w n
 
 -- what the library writes of a number's bytes, which it does, since there is room
-pub hex-given : {A E : Type 0} (r : Result A E) (bytes out : List ℕ) (w n : ℕ) → w ≤ 16 → bytes ≡ to_be_bytes w64 n → (IsOk r ↔ (16 ≡ 2 * length bytes)) → OnOk r (out ≡ encode_lower bytes)
+pub hex_given : {A E : Type 0} (r : Result A E) (bytes out : List ℕ) (w n : ℕ) → w ≤ 16 → bytes ≡ to_be_bytes w64 n → (IsOk r ↔ (16 ≡ 2 * length bytes)) → OnOk r (out ≡ encode_lower bytes)
     → take (16 - (16 - w)) (drop (16 - w) out) ≡ hex w n
 unfolding encode_with
-hex-given (Ok x) bytes out w n h e f g = rw (g, e) (take_rest (encode_lower (to_be_bytes w64 n)) (16 - w) ∙ hex-is w n h)
-hex-given (Err x) bytes out w n h e f g = absurd (let no : false ≡ true = f.1 (rw e) in cc no)
+hex_given (Ok x) bytes out w n h e f g = rw (g, e) (take_rest (encode_lower (to_be_bytes w64 n)) (16 - w) ∙ hex-is w n h)
+hex_given (Err x) bytes out w n h e f g = absurd (let no : false ≡ true = f.1 (rw e) in cc no)

@@ -59,9 +59,9 @@ stock-most k code h l =
     let a = decimal-five k h in
     rw (line-more STOCK (decimal k) (code ∷ []), line-more (decimal k) code [], line-last code) (omega arith)
 
-pub station-most : (i : ℕ) (row : Row) → i < 100000 → row.count < 100000 → length (station_line i row) ≤ most_station
+pub station_most : (i : ℕ) (row : Row) → i < 100000 → row.count < 100000 → length (station_line i row) ≤ most_station
 unfolding station_line
-station-most i row h k =
+station_most i row h k =
     let state = decimal (state_number (shown_of row.state)) in
     let count = decimal row.count in
     let stations = set_shown (is_settled row.state) 4 (stations_shown (shown_of row.state)) in
@@ -93,10 +93,10 @@ numbered-most line_of most k (x ∷ xs) d h =
     let m : suc (length xs) * most ≡ length xs * most + most = suc-mul (length xs) most in
     omega arith
 
-pub stations-most : (rows : List Row) → length rows ≤ most_stations → ((j : ℕ) → j < length rows → (get_or rows j (not_begun 0)).count < 100000)
+pub stations_most : (rows : List Row) → length rows ≤ most_stations → ((j : ℕ) → j < length rows → (get_or rows j (not_begun 0)).count < 100000)
     → length (numbered station_line 1 rows) ≤ most_stations * most_station
-stations-most rows h counts =
-    let e = numbered-most station_line most_station 1 rows (not_begun 0) (λ j m. station-most (1 + j) (get_or rows j (not_begun 0)) (omega arith) (counts j m)) in
+stations_most rows h counts =
+    let e = numbered-most station_line most_station 1 rows (not_begun 0) (λ j m. station_most (1 + j) (get_or rows j (not_begun 0)) (omega arith) (counts j m)) in
     omega arith
 
 pub lines-most : (n turns idle : ℕ) (codes : List (List ℕ)) (rows : List Row) → n < 100000 → turns < 100000 → idle < 100000

@@ -44,6 +44,7 @@ impl Page {
     }
 
     // Puts these bytes. The library's write takes as many as have room, and never fails.
+    #[tactic(auto, using(crate::proofs::Laying::written))]
     fn put(&mut self, bytes: &[u8])
         ensures { self.new.text.items ≡ put_behind self.old.text.items bytes.now }
     {
@@ -51,6 +52,7 @@ impl Page {
     }
 
     // Puts a number in decimal. Not by write!: its contract does not say when it succeeds, and a report cannot fail.
+    #[tactic(auto, using(crate::proofs::Numerals::decimal_is))]
     fn put_number(&mut self, x: u16)
         ensures { self.new.text.items ≡ put_behind self.old.text.items (decimal x) }
     {
@@ -59,6 +61,7 @@ impl Page {
     }
 
     // Puts the last w of a set's sixteen hex digits.
+    #[tactic(auto, using(crate::proofs::Numerals::hex_given))]
     fn put_hex(&mut self, w: usize, set: u64)
         requires { w ≤ 16 }
         ensures { self.new.text.items ≡ put_behind self.old.text.items (hex w set) }

@@ -9,6 +9,7 @@ use method::State;
 
 impl Page {
     // A page with `NO`, number, place.
+    #[tactic(auto, using(crate::proofs::Listed::refusal_put))]
     pub fn of_refusal(number: u16, place: u16) -> Page
         ensures { result.text.items ≡ refusal_line number place }
     {
@@ -36,7 +37,8 @@ impl Page {
         self.put_line(b"STOCK", &[Field::Number(k), Field::Code(code)]);
     }
 
-    // `ST`, number, state, count, stations set, stocks set.
+    // `ST`, number, state, count, stations set, stocks set. Not from the row: how long a line is rests on the count's range, which is known
+    // of a number that is passed.
     pub(super) fn put_station(&mut self, i: u16, state: State, count: u16)
         ensures text { self.new.text.items ≡ put_behind self.old.text.items (station_line i (record { state = state; count = count })) }
         ensures upper_bound { length (station_line i (record { state = state; count = count })) ≤ most_station }

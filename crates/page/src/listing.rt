@@ -50,6 +50,7 @@ impl Page {
     }
 
     // A page with the report of a run of so many turns, of which so many were idle: every line.
+    #[tactic(auto, using(crate::proofs::Listed::report_put))]
     pub fn of_report(run: &Run, turns: u16, idle: u16, stocks: &Stocks) -> Page
         ensures { result.text.items ≡ report_lines run.now.stations turns idle (codes_of stocks.now) run.now.rows }
     {

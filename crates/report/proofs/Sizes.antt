@@ -15,7 +15,7 @@ use Rattle.method.specs.Demand.{Fits, idle_turns}
 use Rattle.method.proofs.Demand3.{fits-board, counts-add-up, count-within}
 use Rattle.text.specs.Refusal.{number_of}
 use Rattle.text.specs.Plan.{Held, Reading, plan, refused, reading}
-use Rattle.page.proofs.Sizes.{refusal-most, lines-most, stations-most}
+use Rattle.page.proofs.Sizes.{refusal-most, lines-most, stations_most}
 use Rattle.report.specs.Printed.{report, report_of, printed, most_printed, answer_of}
 use Rattle.text.specs.Sound.{Sound}
 use Rattle.text.proofs.Outcomes.{sound as plan-sound, fault-most, place-most}
@@ -55,7 +55,7 @@ module _ (h : Held) (sound : Sound h) where
       let f = sound.turns.most in
       lines-most h.stations turned (idle_turns (fresh h.stations h.stocks.sets) h.turns turned) h.stocks.codes ends.rows (omega arith) (omega arith) idle-most sound.stocks.codes.most
       (λ j l. (sound.stocks.codes.good j l).most)
-      (stations-most rows (omega arith)
+      (stations_most rows (omega arith)
       (λ j l.
       let k : j < h.stations = omega arith in
       rw (get_or-take h.stations ends.rows j (not_begun 0) k) (count_most j k)))
