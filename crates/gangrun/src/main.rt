@@ -3,11 +3,10 @@
 
 ghost use Rattle.std.specs.Prelude.{◌≡◌, ◌+◌, length};
 ghost use Rattle.text.specs.Limits.{most_bytes};
-ghost use Rattle.report.specs.Printed.{most_printed};
 
-use input::Input;
+use input::read_all;
 use page::PAGE;
-use report::Printed;
+use report::whole::print_plan;
 use sets::limits::BYTES;
 use std::io::Error;
 
@@ -20,44 +19,26 @@ fn text_room() -> [u8; ROOM]
     [0; ROOM]
 }
 
-// Room for the longest report.
-fn report_room() -> [u8; PAGE]
-    ensures { most_printed ≡ length result }
-{
-    [0; PAGE]
-}
-
 // What failed, and why. Where standard error fails too, nothing can be told.
 fn tell(rt: &HostRuntime, what: &str, why: Error) {
     let _ = eprintln!(rt; "gangrun: {what}: {why}");
 }
 
-fn write_out(rt: &HostRuntime, report: &[u8]) {
-    if let Err(why) = rt.write_all(report) {
-        tell(rt, "standard output", why);
-    }
-}
-
-#[tactic(auto, unfolding(report::specs::Printed::answer_of))]
+// A page has room for every report.
+#[tactic(auto, using(report::proofs::Sizes::suffices))]
 fn print_report(rt: &HostRuntime, plan: &[u8]) {
-    let mut page = report_room();
-    match report::whole::print_plan(plan, &mut page) {
-        Printed::Whole(end) => {
-            write_out(rt, &page[..end]);
-        }
-        Printed::TooSmall => {}
+    let mut page = [0; PAGE];
+    let end = print_plan(plan, &mut page).unwrap();
+    if let Err(why) = rt.write_all(&page[..end]) {
+        tell(rt, "standard output", why);
     }
 }
 
 // A text of which only a part was read is no plan: it is not run.
 fn main(rt: HostRuntime) {
     let mut text = text_room();
-    match input::read_all(&mut rt.stdin(), &mut text) {
-        Input::Whole(got) => {
-            print_report(&rt, &text[..got]);
-        }
-        Input::Failed(why) => {
-            tell(&rt, "standard input", why);
-        }
+    match read_all(&mut rt.stdin(), &mut text) {
+        Ok(count) => print_report(&rt, &text[..count]),
+        Err(why) => tell(&rt, "standard input", why),
     }
 }

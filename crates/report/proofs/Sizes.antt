@@ -7,6 +7,7 @@ use borrow.Author.Tests.{le-leb}
 use native.Mathlib.Omega.{arith}
 use lib.ListN.{length, get_or, take, length-take}
 use lib.Seq.{get_or-take}
+use Rattle.std.proofs.Common.{length-take-le}
 use Rattle.std.specs.Prelude.{Ok}
 use Rattle.method.specs.declared.Run.{Run}
 use Rattle.method.specs.Board.{levels, registers, fresh, not_begun, row_of}
@@ -73,3 +74,6 @@ printed-most text = go (reading text) refl
 pub always-whole : (text : List ℕ) (room : ℕ) → most_printed ≤ room → answer_of (printed text) room ≡ Ok (length (printed text))
 unfolding answer_of
 always-whole text room h = rw (le-leb (length (printed text)) room (le_trans (printed-most text) h))
+
+-- for a program that has a page
+pub ruleset suffices = (printed-most, always-whole, length-take-le)
