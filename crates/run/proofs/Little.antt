@@ -4,9 +4,9 @@ use mathlib.Core.Path.{◌≡◌, refl, sym, ap, ◌∙◌}
 use mathlib.Core.List.{List, [], ◌∷◌}
 use native.Mathlib.Decide.{dec_lt}
 use native.Mathlib.Omega.{arith}
-use borrow.Author.Count.{below_more}
 use lib.ListN.{length, get_or, take, drop, set, length-set, drop_of_length-le, replicate}
-use lib.Seq.{drop-drop, ext_get_or, get_or-set_same, get_or-set_other}
+use lib.Seq.{drop-drop, ext_get_or}
+use Rattle.std.proofs.lemmas.Grind.{common_steps}
 use Rattle.std.proofs.lemmas.List.{length-take}
 use Rattle.std.specs.Int.{w64, from_le_bytes}
 use Rattle.std.specs.Simd.{first_chunks}
@@ -66,20 +66,15 @@ pub record Read (bytes inputs : List ℕ) (i : ℕ) : Type 0 where
   pub done : (k : ℕ) → k < i → get_or inputs k 0 ≡ number_in (take 8 (drop (8 * k) bytes))
   pub rest : (k : ℕ) → i ≤ k → get_or inputs k 0 ≡ 0
 
-all-empty : (m k : ℕ) → ◌≡◌ {A = ℕ} (get_or (replicate m 0) k 0) 0
-all-empty zero k = refl
-all-empty (suc m) zero = refl
-all-empty (suc m) (suc k) = all-empty m k
-
 pub none_read : (bytes : List ℕ) → Read bytes (replicate 16 0) 0
-none_read bytes = record { count = refl; done = λ k h. absurd (omega arith); rest = λ k h. all-empty 16 k }
+none_read bytes = record { count = refl; done = λ k h. absurd (omega arith); rest = λ k h. grind (arith, common_steps) }
 
 pub one-read : (bytes inputs : List ℕ) (i v : ℕ) → Read bytes inputs i → i < 16 → v ≡ number_in (take 8 (drop (8 * i) bytes)) → Read bytes (set inputs i v) (i + 1)
 one-read bytes inputs i v r h e =
     record {
       count = length-set inputs i v ∙ r.count;
-      done = below_more _ i (λ k l. get_or-set_other inputs i k v 0 (λ q. absurd (omega arith)) ∙ r.done k l) (get_or-set_same inputs i v 0 (rw r.count h) ∙ e);
-      rest = λ k l. get_or-set_other inputs i k v 0 (λ q. absurd (omega arith)) ∙ r.rest k (omega arith);
+      done = λ k l. grind (arith, common_steps, r.count, r.done k);
+      rest = λ k l. grind (arith, common_steps, r.rest k);
     }
 
 pub all_read : (bytes inputs : List ℕ) (n : ℕ) → length bytes ≡ 8 * n → Read bytes inputs n → inputs ≡ inputs_in 16 bytes
