@@ -1,5 +1,4 @@
 -- Laws that belong to no one function.
-pub mod Absent
 pub mod Digits
 pub mod Measured
 pub mod Scanned

@@ -1,11 +1,11 @@
 -- How long a field's code is, by its spaces from the end, and what the length tells of the field.
-use Prim.Native.Nat.{ℕ, zero, suc, ◌+◌, ◌-◌, ◌≤◌, ◌<◌}
+use Prim.Native.Nat.{ℕ, ◌-◌, ◌≤◌, ◌<◌}
 use mathlib.Core.Path.{◌≡◌, refl, sym, ap, ◌∙◌}
 use mathlib.Core.Bool.{Bool, true, false, cond, not}
 use mathlib.Core.List.{List, [], ◌∷◌, ◌++◌}
 use native.Mathlib.Omega.{arith}
 use native.Mathlib.Nat.{sub-zero}
-use lib.ListN.{length, take, length-append, length-reverse}
+use lib.ListN.{length, take, length-reverse}
 use lib.Dec.{leb, ltb, eqb}
 use borrow.Author.Tests.{le-leb, lt-leb, leb-true, ltb-true, ltb-false, eqb-true, eqb-false}
 use Rattle.std.specs.List.{position, position_or_len}
@@ -21,7 +21,7 @@ use Rattle.text.specs.Plan.{Out, taken, no, code_in, code}
 use Rattle.text.specs.declared.Fault.TheVariants.{BadCode}
 use Rattle.text.proofs.Codes.{code-space, code-solid, code-front, code-short}
 use Rattle.fields.specs.Measure.{length_of}
-use Rattle.fields.proofs.Absent.{some}
+use Rattle.sets.proofs.Absent.{unless-present, unless-absent}
 
 -- ---- what is left of a field, and its length
 
@@ -79,7 +79,7 @@ module _ (f : List ℕ) (r : Option ℕ) (ends : r ≡ position solid (reverse f
   unfolding code Ended
   all-spaces e =
       let h = rw e at ended in
-      sym (ap unless_zero (short-in (code_of f) (omega arith) ∙ h))
+      unless-absent _ (short-in (code_of f) (omega arith) ∙ h)
 
   pub long-code : (n : ℕ) → r ≡ Some n → most_code < length f - n → None ≡ unless_zero (length_of (code f))
   unfolding code Ended
@@ -91,7 +91,8 @@ module _ (f : List ℕ) (r : Option ℕ) (ends : r ≡ position solid (reverse f
   unfolding code Ended
   short-code n e l =
       let h = rw e at ended in
-      sym (some (length_of (code_in (code_of f))) (length f - n) (short-in (code_of f) (omega arith) ∙ h.0) (omega arith))
+      let k = short-in (code_of f) (omega arith) ∙ h.0 in
+      ap Some (sym k) ∙ unless-present _ (omega arith)
 
 -- ---- the length, and what comes of the field
 
@@ -107,13 +108,16 @@ measured (b ∷ c) = by_cases (leb (length (b ∷ c)) most_code) refl
     by_cases true e = good (rw e) (omega arith) (leb-true (length (b ∷ c)) most_code e)
     by_cases false e = refused (rw e)
 
+there : (c : List ℕ) → code_in c ≡ taken c → 1 ≤ length c → unless_zero (length_of (code_in c)) ≡ Some (length c)
+there c e h = ap (λ (o : Out (List ℕ)). unless_zero (length_of o)) e ∙ sym (unless-present (length c) h)
+
 pub no_code : (f : List ℕ) → None ≡ unless_zero (length_of (code f)) → code f ≡ no BadCode
 unfolding code
 no_code f e = by_cases (measured (code_of f))
   where
     by_cases : Kind (code_of f) → code_in (code_of f) ≡ no BadCode
     by_cases (refused r) = r
-    by_cases (good g least most) = let h : None ≡ Some (length (code_of f)) = e ∙ some _ _ (ap length_of g) least in cc
+    by_cases (good g least most) = let h : None ≡ Some (length (code_of f)) = e ∙ there (code_of f) g least in cc
 
 module _ (f : List ℕ) (n : ℕ) (size : Some n ≡ unless_zero (length_of (code f))) where
   Sized : Type 0
@@ -126,7 +130,7 @@ module _ (f : List ℕ) (n : ℕ) (size : Some n ≡ unless_zero (length_of (cod
       by_cases : Kind (code_of f) → Sized
       by_cases (refused r) = let h : Some n ≡ None = size ∙ ap (λ (o : Out (List ℕ)). unless_zero (length_of o)) r in cc
       by_cases (good g least most) =
-          let h : Some n ≡ Some (length (code_of f)) = size ∙ some _ _ (ap length_of g) least in
+          let h : Some n ≡ Some (length (code_of f)) = size ∙ there (code_of f) g least in
           let l : length (code_of f) ≡ n = cc in
           (g, l, omega arith, omega arith)
 

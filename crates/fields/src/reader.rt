@@ -1,6 +1,6 @@
 // The reader of a plan: a window on the lent text with a place in it. Few functions go over it, each thin: they make it, say its
 // place, or leave the work to a scan of the slice from the place. `line_end` and `field_end` go through it from a plain slice and a
-// place, so that the loops over lines and fields carry only the place.
+// place, so that who cuts lines and fields holds slices alone.
 ghost use Rattle.std.specs.Prelude.{◌≡◌, ℕ, Bool};
 ghost use Rattle.text.specs.Text as Text;
 ghost use Rattle.fields.specs.Window.{no_tab, end_of, Tests};

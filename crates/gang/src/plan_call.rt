@@ -7,14 +7,14 @@ ghost use Rattle.text.specs.Buffers.{told_of, counts_after, sets_after, codes_af
 
 use plan::read_plan;
 use sets::limits::{CELLS, STATIONS, STOCKS, TURNS};
-use text::{Answer, Fault, number_of};
+use text::{Fault, Refusal};
 
 // A refusal and its place as one number. It fits, since a place is a line of the text.
 fn with_place(fault: Fault, place: usize) -> u32
     requires { with_place (number_of fault) place < 2 ^ 32 }
     ensures { result ≡ with_place (number_of fault) place }
 {
-    (number_of(fault) as u32) + 100 * (place as u32)
+    u8::from(fault) as u32 + 100 * (place as u32)
 }
 
 // Returns 0, with n and the numbers of stocks and of turns in `told`, or the refusal plus 100 times its place, and then every array is untouched.
@@ -35,15 +35,10 @@ pub extern "C" fn gang_read_plan(
     ensures turns { turns.new ≡ turns_after (reading text.now) turns.old }
 {
     match read_plan(text, sets, codes, lens, turns) {
-        Answer::Plan {
-            stations: n,
-            stocks: s,
-            turns: t,
-        } => {
-            let stations = n as usize;
-            *told = [stations, s, t];
+        Ok(counts) => {
+            *told = [counts.stations as usize, counts.stocks, counts.turns];
             0
         }
-        Answer::Refused { fault: f, place: p } => with_place(f, p),
+        Err(Refusal { fault, place }) => with_place(fault, place),
     }
 }

@@ -1,13 +1,11 @@
--- Laws that belong to no one function.
+-- Laws that the check cites.
 pub mod Keys
-pub mod Windows
-pub mod Fields
-pub mod Turned
-pub mod Listing
-pub mod Coding
+pub mod Cuts
+pub mod Words
+pub mod Turns
+pub mod Stocks
+pub mod Eaches
 pub mod HasLines
-pub mod GangLines
 pub mod LineWays
-pub mod Later
-pub mod Celled
+pub mod Handed
 pub mod Whole

@@ -1,86 +1,71 @@
--- A later line, by its word.
-use Prim.Native.Nat.{ℕ, ◌+◌}
-use mathlib.Core.Path.{◌≡◌, sym, ap, ◌∙◌, subst}
-use mathlib.Core.List.{List}
-use lib.ListN.{take, drop}
-use Rattle.text.specs.Text.{run}
-use Rattle.text.specs.Plan.{Out, taken, no, then, Stocked, stocked, has_line, turn_line, Held, held, word_of, word_line, later_fields}
-use Rattle.fields.specs.Window.{part, no_tab, fields_from}
-use Rattle.plan.specs.Hand.{TurnsRead, codes_in, StockedRead, Hand, hand, held_of, PlanIn, LineAt, LineRead}
-use Rattle.text.specs.declared.Word.{Word}
-use Rattle.text.specs.declared.Word.TheVariants.{Has, Turn, Other}
+-- A later line by its word, and the lines of a text one after another.
+use Prim.Native.Nat.{ℕ, suc, ◌+◌, ◌<◌}
+use mathlib.Core.Path.{◌≡◌, refl, sym, ap, ◌∙◌}
+use mathlib.Core.List.{List, [], ◌∷◌}
+use native.Mathlib.Omega.{arith}
+use native.Mathlib.Numerals.{add-one}
+use lib.ListN.{length}
+use Rattle.std.specs.Prelude.{Result, Ok, Err}
+use Rattle.text.specs.Text.{parted, lines_of, fields_of}
+use Rattle.text.specs.Plan.{Out, taken, no, then, Stocked, has_line, turn_line, Held, held, word_of, word_line, later_fields, later_line, plan, refused, at_line, later_lines}
 use Rattle.text.specs.declared.Fault.{Fault}
 use Rattle.text.specs.declared.Fault.TheVariants.{OtherWord}
-use Rattle.plan.specs.declared.Counted.{Counted}
-use Rattle.plan.specs.declared.Counted.TheVariants.{Count, Refused}
-use Rattle.plan.specs.declared.Line.{Line}
-use Rattle.plan.specs.declared.Line.TheVariants.{More, Refused as Bad}
-use Rattle.plan.proofs.Windows.{fields-step}
+use Rattle.text.specs.declared.Word.{Word}
+use Rattle.text.specs.declared.Word.TheVariants.{Has, Turn, Other}
+use Rattle.plan.specs.Left.{Cut, Strayed}
+use Rattle.plan.specs.Outs.{out}
 
-module _ {text : List ℕ} {at end n : ℕ} {b : Hand} {stocks turned : ℕ} (pre : LineAt text at end n b stocks turned)
-    {e : ℕ} (e-is : e ≡ at + run no_tab (drop at (take end text))) {w : Word} (w-is : w ≡ word_of (part text at e)) where
-  opened : (v : Word) → w ≡ v → later_fields (held_of text n b stocks turned) (fields_from text at end) ≡ word_line v (held_of text n b stocks turned) (fields_from text (e + 1) end)
-  opened v v-is =
-      ap (later_fields (held_of text n b stocks turned)) (fields-step text at end e pre.starts_at pre.ends e-is)
-      ∙ ap (λ (x : Word). word_line x (held_of text n b stocks turned) (fields_from text (e + 1) end)) (sym w-is ∙ v-is)
+-- ---- a line by its word
 
-  pub other_way : {b' : Hand} → w ≡ Other → LineRead (Bad OtherWord) text n b' (later_fields (held_of text n b stocks turned) (fields_from text at end))
-  other_way v = record { gives = sym (opened Other v); kept = tt }
+then_out : {A B : Type 0} (r : Result (Unit {0}) Fault) (a : A) (go : A → B) → then (out r a) (λ x. taken (go x)) ≡ out r (go a)
+then_out (Ok u) a go = refl
+then_out (Err fault) a go = refl
 
-  module _ (v : w ≡ Has) {r : Counted} {sets starts lens keys : List ℕ}
-      (h : StockedRead r text sets starts lens keys (has_line n (stocked (codes_in text b.starts b.lens stocks) b.sets) (fields_from text (e + 1) end))) where
-    had : (x : Counted) → r ≡ x → StockedRead x text sets starts lens keys (has_line n (stocked (codes_in text b.starts b.lens stocks) b.sets) (fields_from text (e + 1) end))
-    had x x-is = subst (λ (y : Counted). StockedRead y text sets starts lens keys (has_line n (stocked (codes_in text b.starts b.lens stocks) b.sets) (fields_from text (e + 1) end))) x-is h
+module _ (h : Held) (fs : List (List ℕ)) where
+  pub no_word : fs ≡ [] → later_fields h fs ≡ no OtherWord
+  no_word e = rw e
 
-    pub has-way : (k : ℕ) → r ≡ Count k
-        → LineRead (More k turned) text n (hand sets starts lens keys b.turns) (later_fields (held_of text n b stocks turned) (fields_from text at end))
-    has-way k k-is =
-        let q = had (Count k) k-is in
-        record {
-          gives = ap (λ (o : Out Stocked). then o (λ s. taken (held n s (take turned b.turns)))) q.gives ∙ sym (opened Has v);
-          kept = record { stations = pre.plan.stations; sets_long = q.kept.0; table = q.kept.1; turns = pre.plan.turns };
-        }
+  module _ (w : List ℕ) (rest : List (List ℕ)) (e : fs ≡ w ∷ rest) where
+    by_word : (k : Word) → k ≡ word_of w → later_fields h fs ≡ word_line k h rest
+    by_word k p = rw e (rw (← p))
 
-    pub has-no-way : {b' : Hand} (fault : Fault) → r ≡ Refused fault
-        → LineRead (Bad fault) text n b' (later_fields (held_of text n b stocks turned) (fields_from text at end))
-    has-no-way fault f_is =
-        record {
-          gives = ap (λ (o : Out Stocked). then o (λ s. taken (held n s (take turned b.turns)))) (had (Refused fault) f_is).gives ∙ sym (opened Has v);
-          kept = tt;
-        }
+    pub other_way : Other ≡ word_of w → later_fields h fs ≡ no OtherWord
+    other_way p = by_word Other p
 
-  module _ (v : w ≡ Turn) {r : Counted} {turns : List ℕ} (h : TurnsRead r turns (turn_line n (take turned b.turns) (fields_from text (e + 1) end))) where
-    turns-had : (x : Counted) → r ≡ x → TurnsRead x turns (turn_line n (take turned b.turns) (fields_from text (e + 1) end))
-    turns-had x x-is = subst (λ (y : Counted). TurnsRead y turns (turn_line n (take turned b.turns) (fields_from text (e + 1) end))) x-is h
+    module _ (r : Result (Unit {0}) Fault) (h' : Held) where
+      pub has_way : Has ≡ word_of w → out r h'.stocks ≡ has_line h.stations h.stocks rest → h' ≡ held h.stations h'.stocks h.turns → out r h' ≡ later_fields h fs
+      has_way p q k =
+          ap (out r) k
+          ∙ sym (by_word Has p ∙ ap (λ (o : Out Stocked). then o (λ s. taken (held h.stations s h.turns))) (sym q) ∙ then_out r h'.stocks (λ s. held h.stations s h.turns))
 
-    pub turn-way : (k : ℕ) → r ≡ Count k
-        → LineRead (More stocks k) text n (hand b.sets b.starts b.lens b.keys turns) (later_fields (held_of text n b stocks turned) (fields_from text at end))
-    turn-way k k-is =
-        let q = turns-had (Count k) k-is in
-        record {
-          gives = ap (λ (o : Out (List ℕ)). then o (λ ts. taken (held n (stocked (codes_in text b.starts b.lens stocks) b.sets) ts))) q.gives ∙ sym (opened Turn v);
-          kept = record { stations = pre.plan.stations; sets_long = pre.plan.sets_long; table = pre.plan.table; turns = q.kept };
-        }
+      pub turn_way : Turn ≡ word_of w → out r h'.turns ≡ turn_line h.stations h.turns rest → h' ≡ held h.stations h.stocks h'.turns → out r h' ≡ later_fields h fs
+      turn_way p q k =
+          ap (out r) k
+          ∙ sym (by_word Turn p ∙ ap (λ (o : Out (List ℕ)). then o (λ ts. taken (held h.stations h.stocks ts))) (sym q) ∙ then_out r h'.turns (λ ts. held h.stations h.stocks ts))
 
-    pub turn-no-way : {b' : Hand} (fault : Fault) → r ≡ Refused fault
-        → LineRead (Bad fault) text n b' (later_fields (held_of text n b stocks turned) (fields_from text at end))
-    turn-no-way fault f_is =
-        record {
-          gives = ap (λ (o : Out (List ℕ)). then o (λ ts. taken (held n (stocked (codes_in text b.starts b.lens stocks) b.sets) ts))) (turns-had (Refused fault) f_is).gives ∙ sym (opened Turn v);
-          kept = tt;
-        }
+pub ruleset line_ways = (no_word, other_way, has_way, turn_way)
 
--- ---- a result of a known kind
+-- ---- the lines of a text
 
-module _ {text : List ℕ} {n : ℕ} {b : Hand} {out : Out Held} {r : Line} (h : LineRead r text n b out) where
-  as-more : (s t : ℕ) → r ≡ More s t → LineRead (More s t) text n b out
-  as-more s t e = subst (λ (x : Line). LineRead x text n b out) e h
+pub lines_end : (k : ℕ) (h : Held) (text : List ℕ) → length text ≡ 0 → later_lines k h (lines_of text) ≡ plan h
+unfolding later_lines parted
+lines_end k h [] e = refl
+lines_end k h (b ∷ text) e = absurd (omega arith)
 
-  pub more-gives : (s t : ℕ) → r ≡ More s t → out ≡ taken (held_of text n b s t)
-  more-gives s t e = sym (as-more s t e).gives
+module _ (k : ℕ) (h : Held) (text : List ℕ) where
+  pub line_strayed : (fault : Fault) → Strayed text fault → later_lines k h (lines_of text) ≡ refused fault k
+  unfolding later_lines later_line
+  line_strayed fault s = rw (s.lines, s.told) (rw s.stray)
 
-  pub more-kept : (s t : ℕ) → r ≡ More s t → PlanIn text n b s t
-  more-kept s t e = (as-more s t e).kept
+  module _ (line rest : List ℕ) (cut : Cut text line rest) (some : 0 < length text) where
+    here : later_lines k h (lines_of text) ≡ at_line k (later_fields h (fields_of line)) (λ h'. later_lines (suc k) h' (lines_of rest))
+    unfolding later_lines later_line
+    here = rw (cut.lines some) (rw cut.fine)
 
-  pub bad-gives : (fault : Fault) → r ≡ Bad fault → out ≡ no fault
-  bad-gives fault e = sym (subst (λ (x : Line). LineRead x text n b out) e h).gives
+    pub line_taken : (h' : Held) → taken h' ≡ later_fields h (fields_of line) → later_lines k h (lines_of text) ≡ later_lines (k + 1) h' (lines_of rest)
+    line_taken h' p = here ∙ rw (← p) (rw add-one)
+
+    pub line_refused : (fault : Fault) → no fault ≡ later_fields h (fields_of line) → later_lines k h (lines_of text) ≡ refused fault k
+    line_refused fault p = here ∙ rw (← p)
+
+pub ruleset lines = (lines_end, line_strayed, line_taken, line_refused)

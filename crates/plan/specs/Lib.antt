@@ -1,3 +1,4 @@
--- What the code has in hand while it reads a plan, and the key of a code.
+-- What is left of a text and of a line, what a step of the reading gives, and the key of a code.
 pub mod Key
-pub mod Hand
+pub mod Left
+pub mod Outs

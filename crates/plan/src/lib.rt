@@ -4,93 +4,59 @@
 ghost use Rattle.std.specs.Prelude.{◌≡◌};
 ghost use Rattle.text.specs.Refusal.{told};
 ghost use Rattle.text.specs.Plan.{reading};
+ghost use Rattle.plan.specs.Outs.{read};
 ghost use Rattle.text.specs.Buffers.{told_of, sets_after, codes_after, lens_after, turns_after};
 
-use cells::put_codes;
-use lines::all_lines;
+use hand::Hand;
+use line::{first_line, gang};
 use sets::limits::{BYTES, CELLS, STATIONS, STOCKS, TURNS};
-use text::{Answer, Fault};
+use text::{Counts, Fault, Refusal};
 
-// What a line's word gives: how many there are now, or what it is refused for.
-#[derive(Clone, Copy)]
-enum Counted {
-    Count(usize),
-    Refused(Fault),
+mod buffers;
+mod code;
+mod hand;
+mod line;
+
+// Reads the lines of the text, of which the first is `GANG` with the number of stations.
+#[tactic(auto, using(crate::proofs::Whole::whole))]
+fn read<'a>(text: &'a [u8]) -> Result<Hand<'a>, Refusal>
+    ensures { read result ≡ reading text.entry.now }
+{
+    if text.len() > BYTES {
+        return Err(Refusal {
+            fault: Fault::LongText,
+            place: 0,
+        });
+    }
+    let (first, rest) = first_line(text).map_err(|fault| Refusal { fault, place: 1 })?;
+    let Some(stations) = gang(first) else {
+        return Err(Refusal {
+            fault: Fault::BadFirstLine,
+            place: 1,
+        });
+    };
+    let mut hand = Hand::new(stations);
+    hand.take_lines(rest)?;
+    Ok(hand)
 }
-
-// What the codes of a `HAS` line give: how many stocks there are now and the station's set, or what it is refused for.
-#[derive(Clone, Copy)]
-enum Coded {
-    Stocks { count: usize, set: u64 },
-    Refused(Fault),
-}
-
-// What a later line gives: how many stocks and turns there are now, or what it is refused for.
-#[derive(Clone, Copy)]
-enum Line {
-    More { stocks: usize, turns: usize },
-    Refused(Fault),
-}
-
-mod cells;
-mod compare;
-mod lines;
-mod stocks;
-mod turns;
 
 // Reads the plan. A plan that is taken is handed out whole: the input set of each station, bit b for stock b; the codes, in cells of
-// 12 bytes, and their lengths; the turns. Of a plan that is refused nothing is handed out. It is read into arrays of its own, and
-// these are copied out at the end.
+// 12 bytes, and their lengths; the turns. Of a plan that is refused nothing is handed out. The buffers are lent as the C interface
+// has them.
 pub fn read_plan(
     text: &[u8],
     sets: &mut [u64; STATIONS],
     codes: &mut [u8; CELLS],
     lens: &mut [usize; STOCKS],
     turns: &mut [u8; TURNS],
-) -> Answer
+) -> Result<Counts, Refusal>
     ensures answer { told result ≡ told_of (reading text.now) }
     ensures sets { sets.new ≡ sets_after (reading text.now) sets.old }
     ensures codes { codes.new ≡ codes_after (reading text.now) codes.old }
     ensures lens { lens.new ≡ lens_after (reading text.now) lens.old }
     ensures turns { turns.new ≡ turns_after (reading text.now) turns.old }
 {
-    if text.len() > BYTES {
-        return Answer::Refused {
-            fault: Fault::LongText,
-            place: 0,
-        };
-    }
-    let mut own_sets = [0u64; STATIONS];
-    let mut own_starts = [0usize; STOCKS];
-    let mut own_lens = [0usize; STOCKS];
-    let mut own_keys = [0u64; STOCKS];
-    let mut own_turns = [0u8; TURNS];
-    let mut cells = [0u8; CELLS];
-    let r = all_lines(
-        text,
-        &mut own_sets,
-        &mut own_starts,
-        &mut own_lens,
-        &mut own_keys,
-        &mut own_turns,
-    );
-    match r {
-        Answer::Plan {
-            stations: n,
-            stocks: s,
-            turns: t,
-        } => {
-            put_codes(text, &own_starts, &own_lens, s, &mut cells);
-            *sets = own_sets;
-            *codes = cells;
-            *lens = own_lens;
-            *turns = own_turns;
-            Answer::Plan {
-                stations: n,
-                stocks: s,
-                turns: t,
-            }
-        }
-        Answer::Refused { fault: f, place: p } => Answer::Refused { fault: f, place: p },
-    }
+    let hand = read(text)?;
+    hand.hand_out(sets, codes, lens, turns);
+    Ok(hand.counts())
 }

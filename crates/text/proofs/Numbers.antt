@@ -100,16 +100,6 @@ pub field-none : (hi : ℕ) (f : List ℕ) → length f ≡ 0 → number_to hi f
 unfolding number_to
 field-none hi f e = ap (number_to hi) (drop_of_length-le f {i = 0} (omega arith))
 
-module _ (hi : ℕ) (f : List ℕ) (h : 0 < length f) where
-  pub field-low : get_or f 0 0 < 49 → number_to hi f ≡ 0
-  field-low l = ap (number_to hi) (drop-cons f 0 0 h) ∙ first-low hi (get_or f 0 0) (drop 1 f) l
-
-  pub field-high : 57 < get_or f 0 0 → number_to hi f ≡ 0
-  field-high l = ap (number_to hi) (drop-cons f 0 0 h) ∙ first-high hi (get_or f 0 0) (drop 1 f) l
-
-  pub field-digit : 49 ≤ get_or f 0 0 → get_or f 0 0 ≤ 57 → number_to hi f ≡ to_go hi (get_or f 0 0 - 48) (drop 1 f)
-  field-digit l g = ap (number_to hi) (drop-cons f 0 0 h) ∙ first-digit hi (get_or f 0 0) (drop 1 f) l g
-
 -- it is no more than hi
 pub number-most : (hi : ℕ) (f : List ℕ) → number_to hi f ≤ hi
 unfolding number_to

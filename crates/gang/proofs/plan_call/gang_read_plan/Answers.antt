@@ -1,19 +1,9 @@
-use borrow.Author.Rules.{rules}
+use mathlib.Core.Path.{ap}
+use native.Mathlib.Omega.{arith}
+use Rattle.text.specs.Refusal.{returned}
 use Rattle.text.proofs.Answers.{returned-most}
-use Rattle.gang.proofs.Telling.{number_is, number_fits, counts-are}
 use Rattle.gang.proofs.plan_call.gang_read_plan.Goals as goal
 
+-- it is what is returned, and that is no large number
 pub with_place-requires : goal.with_place-requires
-with_place-requires c = search (number_fits, returned-most, rules)
-
-pub returns-in-Plan-clause-number : goal.returns-in-Plan-clause-number
-returns-in-Plan-clause-number c = search (number_is, rules)
-
-pub returns-in-Plan-clause-counts : goal.returns-in-Plan-clause-counts
-returns-in-Plan-clause-counts c = search (counts-are, rules)
-
-pub returns-in-Refused-clause-number : goal.returns-in-Refused-clause-number
-returns-in-Refused-clause-number c = search (number_is, rules)
-
-pub returns-in-Refused-clause-counts : goal.returns-in-Refused-clause-counts
-returns-in-Refused-clause-counts c = search (counts-are, rules)
+with_place-requires c = omega (arith, ap returned c.in-Err.ensures.answer, returned-most c.args.text.now)

@@ -1,0 +1,17 @@
+use Rattle.std.proofs.Common.{◌∙◌}
+use Rattle.text.proofs.Lengths.{padded-none}
+use Rattle.plan.proofs.Handed.{no_cells, zero_cells, cells_filled, cells_more, lens_more}
+use Rattle.plan.proofs.buffers.put_codes.Goals as goal
+
+pub loop-k-init : goal.loop-k-init
+loop-k-init c = record { filled = no_cells; cells = zero_cells; lens = padded-none 64 }
+
+pub loop-k-preserved : goal.loop-k-preserved
+loop-k-preserved c =
+    let l = c.loop-k in
+    let is = c.bytes-bytes.ensures.value ∙ c.index-codes-k.is in
+    record {
+      filled = cells_filled _ _ _ c.loop-k-test.true c.requires _ is c.bytes-bytes.ensures.short l.invariant.filled;
+      cells = cells_more _ _ _ c.loop-k-test.true c.requires _ is c.bytes-bytes.ensures.short l.invariant.filled _ _ l.invariant.cells c.put.ensures;
+      lens = lens_more _ _ _ c.loop-k-test.true c.requires _ is c.bytes-bytes.ensures.short l.invariant.filled _ l.invariant.lens;
+    }
