@@ -1,10 +1,10 @@
 -- A text handed out in a buffer, whole or not at all.
 use Prim.Native.Nat.{ℕ, ◌≤◌, ◌<◌}
-use mathlib.Core.Path.{◌≡◌, ◌∙◌}
+use mathlib.Core.Path.{◌≡◌}
 use mathlib.Core.List.{List, ◌++◌}
 use borrow.Author.Tests.{le-leb, lt-leb}
 use lib.ListN.{length, drop}
-use Rattle.std.specs.Prelude.{Result, Ok, Err}
+use Rattle.std.specs.Prelude.{Ok, Err}
 use Rattle.report.specs.Printed.{answer_of, buffer_of}
 
 pub too-small : (text out : List ℕ) → length out < length text → (Err (record {}) ≡ answer_of text (length out)) × (out ≡ buffer_of text out)

@@ -1,5 +1,5 @@
 -- The run of a plan that was taken: every turn is made, and counts and idle turns add up.
-use Prim.Native.Nat.{ℕ, ◌+◌, ◌-◌, ◌≤◌, ◌<◌}
+use Prim.Native.Nat.{ℕ, ◌+◌, ◌-◌, ◌≤◌}
 use mathlib.Core.Path.{◌≡◌, refl, ap, ◌∙◌}
 use mathlib.Core.Bool.{false}
 use mathlib.Core.List.{List}
@@ -13,7 +13,7 @@ use Rattle.method.specs.declared.Did.TheVariants.{Operation, Idle, Unwritten, No
 use Rattle.method.specs.declared.Run.{Run}
 use Rattle.method.specs.Board.{levels, registers, fresh}
 use Rattle.method.specs.Turn.{turn, after}
-use Rattle.method.specs.Demand.{Fits, Station, did_of, idle_turns, counts_of}
+use Rattle.method.specs.Demand.{Fits, did_of, idle_turns, counts_of}
 use Rattle.method.proofs.Demand3.{fits-board, counts-add-up, never-unwritten}
 use Rattle.method.proofs.Moments.{always-sound}
 use Rattle.turns.specs.declared.playing.Played.{Played}

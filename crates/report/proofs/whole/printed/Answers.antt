@@ -1,5 +1,4 @@
 use mathlib.Core.Path.{◌∙◌}
-use Rattle.page.specs.Lines.{refusal_line}
 use Rattle.report.proofs.Printing.{ReadOff, read_off, turns-long, prefix-long, ready, report-is, Refused, refused_off, refusal-is, place-small}
 use Rattle.report.proofs.whole.printed.Goals as goal
 use Rattle.report.proofs.whole.printed.Goals.{In-Ok, In-Err}
