@@ -1,42 +1,30 @@
 -- What is handed out stands in front of zeros: the turns, the lengths of the codes, and the codes, each in the next cell.
-use Prim.Native.Nat.{ℕ, zero, suc, ◌+◌, ◌-◌, ◌*◌, ◌≤◌, ◌<◌}
+use Prim.Native.Nat.{ℕ, suc, ◌+◌, ◌-◌, ◌*◌, ◌≤◌, ◌<◌}
 use mathlib.Core.Path.{◌≡◌, refl, sym, ap, ◌∙◌}
 use mathlib.Core.List.{List, [], ◌∷◌, ◌++◌, map, append_assoc, append-nil}
 use native.Mathlib.Omega.{arith}
-use native.Mathlib.Nat.{sub-zero, zero-sub, suc-sub-suc}
 use native.Mathlib.Numerals.{add-one}
 use lib.ListN.{length, get_or, take, drop, set, length-append, length-map, replicate-append-replicate}
-use lib.Seq.{take-append_seam, drop-append-add, take-suc, length-take-le}
+use Rattle.std.proofs.lemmas.List.{drop-replicate, map-append}
+use lib.Seq.{set-append_seam, take-append_seam, drop-append-add, take-suc, length-take-le}
 use Rattle.text.specs.Limits.{most_stocks, most_turns, most_code}
 use Rattle.text.specs.Buffers.{zeros, padded, cells_of}
 use Rattle.text.proofs.Lengths.{padded-long, padded-none}
-
-drop-zeros : (n m : ℕ) → drop n (zeros m) ≡ zeros (m - n)
-drop-zeros zero m = ap zeros (sym (sub-zero m))
-drop-zeros (suc n) zero = ap zeros (sym (zero-sub (suc n)))
-drop-zeros (suc n) (suc m) = drop-zeros n m ∙ ap zeros (sym (suc-sub-suc m n))
 
 -- ---- turns
 
 pub turns_put : (turns buffer : List ℕ) → buffer ≡ turns ++ drop (0 + length turns) (zeros most_turns) → buffer ≡ padded most_turns turns
 unfolding padded
-turns_put turns buffer e = let z : 0 + length turns ≡ length turns = omega arith in e ∙ ap (λ (n : ℕ). turns ++ drop n (zeros most_turns)) z ∙ ap (λ (l : List ℕ). turns ++ l) (drop-zeros (length turns) most_turns)
+turns_put turns buffer e = let z : 0 + length turns ≡ length turns = omega arith in e ∙ ap (λ (n : ℕ). turns ++ drop n (zeros most_turns)) z ∙ ap (λ (l : List ℕ). turns ++ l) (drop-replicate (length turns) most_turns 0)
 
 -- ---- lengths
-
-seam : (x : List ℕ) (v m : ℕ) → set (x ++ zeros (suc m)) (length x) v ≡ (x ++ (v ∷ [])) ++ zeros m
-seam [] v m = refl
-seam (y ∷ x) v m = ap (λ (l : List ℕ). y ∷ l) (seam x v m)
 
 one-more : (n : ℕ) (x : List ℕ) (v : ℕ) → length x < n → set (padded n x) (length x) v ≡ padded n (x ++ (v ∷ []))
 unfolding padded
 one-more n x v h =
     let m : n - length x ≡ suc (n - length (x ++ (v ∷ []))) = omega (arith, length-append x (v ∷ [])) in
-    ap (λ (k : ℕ). set (x ++ zeros k) (length x) v) m ∙ seam x v (n - length (x ++ (v ∷ [])))
-
-map_snoc : (cs : List (List ℕ)) (c : List ℕ) → map length (cs ++ (c ∷ [])) ≡ map length cs ++ (length c ∷ [])
-map_snoc [] c = refl
-map_snoc (d ∷ cs) c = ap (λ (l : List ℕ). length d ∷ l) (map_snoc cs c)
+    ap (λ (k : ℕ). set (x ++ zeros k) (length x) v) m ∙ set-append_seam x 0 (zeros (n - length (x ++ (v ∷ [])))) v
+    ∙ sym (append_assoc x (v ∷ []) (zeros (n - length (x ++ (v ∷ [])))))
 
 -- ---- cells
 
@@ -52,7 +40,7 @@ module _ (x c : List ℕ) (n : ℕ) (room : length x + most_code ≤ n) (short :
       let z : ℕ = n - length (x ++ padded most_code c) in
       let rest : m - length c ≡ most_code - length c + z = let l : length (x ++ padded most_code c) ≡ length x + most_code = cells_long in omega arith in
       let front : take (length x) (padded n x) ≡ x = take-append_seam x (zeros m) in
-      let behind : drop (length x + length c) (padded n x) ≡ zeros (m - length c) = drop-append-add x (zeros m) (length c) ∙ drop-zeros (length c) m in
+      let behind : drop (length x + length c) (padded n x) ≡ zeros (m - length c) = drop-append-add x (zeros m) (length c) ∙ drop-replicate (length c) m 0 in
       let both : zeros (most_code - length c) ++ zeros z ≡ zeros (most_code - length c + z) = replicate-append-replicate (most_code - length c) z 0 in
       let left : take (length x) (padded n x) ++ c ++ drop (length x + length c) (padded n x) ≡ (x ++ c) ++ zeros (m - length c) = rw (front, behind) in
       let right : padded n (x ++ padded most_code c) ≡ (x ++ c) ++ (zeros (most_code - length c) ++ zeros z) =
@@ -96,4 +84,4 @@ module _ (codes : List (List ℕ)) (k : ℕ) (c : List ℕ) (here : k < length c
       ap (λ (m : List ℕ). set m k (length c)) e
       ∙ ap (λ (i : ℕ). set (padded most_stocks (map length (take k codes))) i (length c)) (sym l)
       ∙ one-more most_stocks (map length (take k codes)) (length c) (omega arith)
-      ∙ ap (padded most_stocks) (sym (ap (map length) next ∙ map_snoc (take k codes) c))
+      ∙ ap (padded most_stocks) (sym (ap (map length) next ∙ map-append length (take k codes) (c ∷ [])))

@@ -1,8 +1,7 @@
 // What is in hand of a plan while its lines are read, and how each line goes into it.
-ghost use Rattle.std.specs.Prelude.{◌≡◌, ◌≤◌, ◌<◌, ◌*◌, length, map, IfOk};
+ghost use Rattle.std.specs.Prelude.{◌≡◌, ◌≤◌, ◌<◌, ◌*◌, length, map, IfOk, IfSome, position};
 ghost use Rattle.text.specs.Limits.{most_stations, most_stocks, most_turns, most_code};
-ghost use Rattle.text.specs.Text.{fields_of, lines_of};
-ghost use Rattle.text.specs.Code.{stock_of};
+ghost use Rattle.text.specs.Text.{fields_of, lines_of, same};
 ghost use Rattle.text.specs.Plan.{fresh, held, stocked, holding, each, station, take_turn, turn_line, with_stock, add_stock, take_code, has_line, later_fields, later_lines};
 ghost use Rattle.text.specs.Buffers.{padded, cells_of};
 ghost use Rattle.plan.specs.Left.{fields_left};
@@ -91,15 +90,15 @@ impl<'a> Hand<'a> {
         Ok(())
     }
 
-    // The number of the code among the stocks so far, or their count where it is a new one.
-    fn stock_of(&self, code: &Code) -> usize
-        ensures { result ≡ stock_of code.now self.now.stocks.codes }
+    // The number of the code among the stocks so far.
+    fn stock_of(&self, code: &Code) -> Option<usize>
+        ensures found { result ≡ position (λ known. same code.now known) self.now.stocks.codes }
+        ensures below { IfSome result (λ k. k < most_stocks) }
     {
-        let codes = self.codes.as_slice();
-        codes
+        self.codes
+            .as_slice()
             .iter()
             .position(|known| code.is(known))
-            .unwrap_or(codes.len())
     }
 
     // The code goes into the set, and is a new stock if it is not known.
@@ -108,13 +107,13 @@ impl<'a> Hand<'a> {
         ensures codes { coded result self.new.stocks.codes ≡ add_stock (holding self.old.stocks.codes set) code.entry }
         ensures kept { self.new ≡ held self.old.stations (stocked self.new.stocks.codes self.old.stocks.sets) self.old.turns }
     {
-        let stock = self.stock_of(&code);
-        if stock < self.codes.len() {
+        if let Some(stock) = self.stock_of(&code) {
             return Ok(with_stock(set, stock));
         }
         if self.codes.is_full() {
             return Err(Fault::MoreStocks);
         }
+        let stock = self.codes.len();
         self.codes.push(code);
         Ok(with_stock(set, stock))
     }
