@@ -2,23 +2,25 @@
 -- with its equation.
 use Prim.Native.Nat.{ℕ, ◌+◌, ◌^◌, ◌≤◌, ◌<◌, min}
 use mathlib.Core.Path.{◌≡◌, refl, sym, ap, ◌∙◌}
-use mathlib.Core.Bool.{Bool, true, false}
+use mathlib.Core.Bool.{Bool, true, false, cond}
 use native.Mathlib.Decide.{dec_lt}
 use native.Mathlib.Omega.{arith}
-use borrow.Author.Tests.{ltb-true, lt-ltb, le-ltb, eq-eqb, ne_eqb, le-leb}
+use borrow.Author.Tests.{ltb-true, lt-ltb, le-ltb, le-leb}
 use lib.Count.{ones-le}
-use lib.Dec.{ltb}
+use lib.Dec.{ltb, eqb}
 use Rattle.sets.specs.Mask.{size, alone, alone_in}
 use Rattle.sets.specs.Arrays.{array_length}
 use Rattle.method.specs.declared.Reading.{Reading}
 use Rattle.method.specs.declared.Side.{Side}
 use Rattle.method.specs.declared.Side.TheVariants.{Own, Other}
+use Rattle.method.specs.declared.Round.{Round}
 use Rattle.method.specs.declared.State.{State}
 use Rattle.method.specs.declared.State.TheVariants.{Uniting}
 use Rattle.method.specs.declared.Op.TheVariants.{Write, Read}
 use Rattle.method.specs.Steps.{climb, round_over, read_other, read_own, writing, pending, reach, wrote, found, changed, absorb_own, absorb_other, absorb}
 use Rattle.station.specs.declared.uniting.Union.{Union}
-use Rattle.station.specs.Hand.{of, state_of, in_hand, with_reading, with_round, read_on, reading_over, absorb_union}
+use Rattle.std.specs.Prelude.{Option, None, Some}
+use Rattle.station.specs.Hand.{of, state_of, in_hand, with_reading, with_round, read_on, reading_over, brought, absorb_union}
 
 -- a set in a word has at most 64 members
 pub size_word : (s : ℕ) → s < 2 ^ 64 → size s ≤ 64
@@ -64,40 +66,68 @@ pub ruleset reaches = (known_fits, reach-write, reach-read)
 
 -- ---- the union
 
-module _ (N : ℕ) (u : Union) (v : ℕ) (s : State) where
-  pub absorbs-wrote : writing (in_hand u) ≡ true → s ≡ read_on N (with_reading u (wrote (in_hand u))) → s ≡ absorb_union N u v
-  unfolding absorb_own absorb_other
-  absorbs-wrote t h = h ∙ at u.side t
+-- the reading in hand goes on, or is over
+module _ (N : ℕ) (u : Union) (s : State) where
+  pub on-pending : true ≡ pending u.level (in_hand u) → s ≡ Uniting u.level u.own u.other u.side u.round → s ≡ read_on N u
+  unfolding read_own read_other
+  on-pending t h = h ∙ at u.side t
     where
-      at : (x : Side) → writing (of x u.own u.other) ≡ true
-          → of x (read_own N u.level (of x (wrote (of x u.own u.other)) u.own) (of x u.other (wrote (of x u.own u.other))) u.round)
-          (read_other N u.level (of x (wrote (of x u.own u.other)) u.own) (of x u.other (wrote (of x u.own u.other))) u.round)
-          ≡ of x (absorb_own N u.level u.own u.other u.round v) (absorb_other N u.level u.own u.other u.round v)
-      at Own f = rw f
-      at Other f = rw f
+      at : (x : Side) → true ≡ pending u.level (of x u.own u.other)
+          → Uniting u.level u.own u.other x u.round ≡ of x (read_own N u.level u.own u.other u.round) (read_other N u.level u.own u.other u.round)
+      at Own f = rw (← f)
+      at Other f = rw (← f)
 
-  pub absorbs-empty : writing (in_hand u) ≡ false → v ≡ 0 → s ≡ reading_over N u → s ≡ absorb_union N u v
-  unfolding absorb_own absorb_other
-  absorbs-empty t z h = h ∙ at u.side t
+  pub on-over : false ≡ pending u.level (in_hand u) → s ≡ reading_over N u → s ≡ read_on N u
+  unfolding read_own read_other
+  on-over t h = h ∙ at u.side t
     where
-      at : (x : Side) → writing (of x u.own u.other) ≡ false
+      at : (x : Side) → false ≡ pending u.level (of x u.own u.other)
           → of x (read_other N u.level u.own u.other u.round) (round_over N u.level u.own u.other u.round)
-          ≡ of x (absorb_own N u.level u.own u.other u.round v) (absorb_other N u.level u.own u.other u.round v)
-      at Own f = rw (f, eq-eqb v 0 z)
-      at Other f = rw (f, eq-eqb v 0 z)
+          ≡ of x (read_own N u.level u.own u.other u.round) (read_other N u.level u.own u.other u.round)
+      at Own f = rw (← f)
+      at Other f = rw (← f)
 
-  pub absorbs-found : writing (in_hand u) ≡ false → (v ≡ 0 → ⊥) → s ≡ read_on N (with_reading (with_round u (changed u.round)) (found (in_hand u) v)) → s ≡ absorb_union N u v
+pub ruleset goes_on = (on-pending, on-over)
+
+-- what an operation of the union brought, by the union after it
+module _ (N k : ℕ) (own other : Reading) (round : Round) (v : ℕ) where
+  abbrev at : Side → Union
+  at side = record { level = k; own = own; other = other; side = side; round = round }
+
+  abbrev after : Side → Option Union → State
+  after side None = reading_over N (at side)
+  after side (Some b) = read_on N b
+
+  own_after : (x y : Bool)
+      → after Own (cond x (Some (with_reading (at Own) (wrote own))) (cond y None (Some (with_reading (with_round (at Own) (changed round)) (found own v)))))
+      ≡ cond x (read_own N k (wrote own) other round) (cond y (read_other N k own other round) (read_own N k (found own v) other (changed round)))
+  own_after true y = refl
+  own_after false true = refl
+  own_after false false = refl
+
+  other-after : (x y : Bool)
+      → after Other (cond x (Some (with_reading (at Other) (wrote other))) (cond y None (Some (with_reading (with_round (at Other) (changed round)) (found other v)))))
+      ≡ cond x (read_other N k own (wrote other) round) (cond y (round_over N k own other round) (read_other N k own (found other v) (changed round)))
+  other-after true y = refl
+  other-after false true = refl
+  other-after false false = refl
+
+  after-is : (side : Side) → after side (brought (at side) v) ≡ absorb_union N (at side) v
   unfolding absorb_own absorb_other
-  absorbs-found t z h = h ∙ at u.side t
-    where
-      at : (x : Side) → writing (of x u.own u.other) ≡ false
-          → of x (read_own N u.level (of x (found (of x u.own u.other) v) u.own) (of x u.other (found (of x u.own u.other) v)) (changed u.round))
-          (read_other N u.level (of x (found (of x u.own u.other) v) u.own) (of x u.other (found (of x u.own u.other) v)) (changed u.round))
-          ≡ of x (absorb_own N u.level u.own u.other u.round v) (absorb_other N u.level u.own u.other u.round v)
-      at Own f = rw (f, ne_eqb v 0 z)
-      at Other f = rw (f, ne_eqb v 0 z)
+  after-is Own = own_after (writing own) (eqb v 0)
+  after-is Other = other-after (writing other) (eqb v 0)
 
-pub ruleset absorbs = (absorbs-wrote, absorbs-empty, absorbs-found)
+module _ (N : ℕ) (u : Union) (v : ℕ) (s : State) where
+  was : after N u.level u.own u.other u.round v u.side (brought u v) ≡ absorb_union N u v
+  was = after-is N u.level u.own u.other u.round v u.side
+
+  pub absorbs-on : (b : Union) → Some b ≡ brought u v → s ≡ read_on N b → s ≡ absorb_union N u v
+  absorbs-on b e h = h ∙ ap (after N u.level u.own u.other u.round v u.side) e ∙ was
+
+  pub absorbs-over : None ≡ brought u v → s ≡ reading_over N u → s ≡ absorb_union N u v
+  absorbs-over e h = h ∙ ap (after N u.level u.own u.other u.round v u.side) e ∙ was
+
+pub ruleset absorbs = (absorbs-on, absorbs-over)
 
 -- ---- what it brought, by the state
 

@@ -1,5 +1,5 @@
 -- A union by the reading in hand: of its two arrays it reads one at a time.
-use Rattle.std.specs.Prelude.{ℕ}
+use Rattle.std.specs.Prelude.{ℕ, cond, Option, None, Some, eqb}
 use Rattle.sets.specs.Mask.{union}
 use Rattle.method.specs.declared.Reading.{Reading}
 use Rattle.method.specs.declared.Side.{Side}
@@ -7,7 +7,7 @@ use Rattle.method.specs.declared.Side.TheVariants.{Own, Other}
 use Rattle.method.specs.declared.Round.{Round}
 use Rattle.method.specs.declared.State.{State}
 use Rattle.method.specs.declared.State.TheVariants.{Uniting}
-use Rattle.method.specs.Steps.{climb, round_over, read_other, read_own, absorb_own, absorb_other}
+use Rattle.method.specs.Steps.{climb, writing, wrote, found, changed, round_over, read_other, read_own, absorb_own, absorb_other}
 use Rattle.station.specs.declared.uniting.Union.{Union}
 
 -- what belongs to the side: the first to the own array, the second to the other
@@ -39,6 +39,12 @@ reading_over N u = of u.side (read_other N u.level u.own u.other u.round) (round
 -- the reading in hand goes on
 abbrev pub read_on : ℕ → Union → State
 read_on N u = of u.side (read_own N u.level u.own u.other u.round) (read_other N u.level u.own u.other u.round)
+
+-- the union after its operation brought v: none where an empty register was read, and the reading in hand is over
+abbrev pub brought : Union → ℕ → Option Union
+brought u v =
+    cond (writing (in_hand u)) (Some (with_reading u (wrote (in_hand u))))
+    (cond (eqb v 0) None (Some (with_reading (with_round u (changed u.round)) (found (in_hand u) v))))
 
 -- what an operation of the union brought, on either side
 abbrev pub absorb_union : ℕ → Union → ℕ → State

@@ -1,24 +1,25 @@
-use mathlib.Core.Path.{sym, ap, ◌∙◌}
+use mathlib.Core.Path.{ap}
 use native.Mathlib.Omega.{arith}
 use Rattle.method.specs.declared.Turned.{Turned}
-use Rattle.turns.proofs.Stepping.{step_made, step_none, step_room}
+use Rattle.turns.proofs.Stepping.{step_ok, step_err}
 use Rattle.turns.proofs.turning.step.Goals as goal
 
-pub perform-requires-clause-room : goal.perform-requires-clause-room
-perform-requires-clause-room c = step_room _ _ _ c.seat_of.ensures (omega arith) (sym c.if-may_turn.ensures)
+pub returns-in-Ok-clause-record : goal.returns-in-Ok-clause-record
+returns-in-Ok-clause-record c =
+    ap (λ (x : Turned). x.run)
+    (step_ok _ _ _ c.seat_of-at.ensures (omega arith) _ c.made.new.run _ _ c.if-not-may_turn.ensures c.next_op.ensures c.made.ensures.record c.in-Ok.ensures.told c.gone_on.ensures)
 
-pub returns-then-may_turn-clause-record : goal.returns-then-may_turn-clause-record
-returns-then-may_turn-clause-record c =
-    let made = step_made _ _ _ c.seat_of.ensures (omega arith) _ (sym c.if-may_turn.ensures) c.next_op.ensures in
-    c.perform.ensures.record ∙ ap (λ (x : Turned). x.run) made
+pub returns-in-Ok-clause-told : goal.returns-in-Ok-clause-told
+returns-in-Ok-clause-told c =
+    ap (λ (x : Turned). x.did)
+    (step_ok _ _ _ c.seat_of-at.ensures (omega arith) _ c.made.new.run _ _ c.if-not-may_turn.ensures c.next_op.ensures c.made.ensures.record c.in-Ok.ensures.told c.gone_on.ensures)
 
-pub returns-then-may_turn-clause-told : goal.returns-then-may_turn-clause-told
-returns-then-may_turn-clause-told c =
-    let made = step_made _ _ _ c.seat_of.ensures (omega arith) _ (sym c.if-may_turn.ensures) c.next_op.ensures in
-    c.perform.ensures.told ∙ ap (λ (x : Turned). x.did) made
+pub returns-in-Err-clause-record : goal.returns-in-Err-clause-record
+returns-in-Err-clause-record c =
+    ap (λ (x : Turned). x.run)
+    (step_err _ _ _ c.seat_of-at.ensures (omega arith) _ _ _ c.if-not-may_turn.ensures c.next_op.ensures c.made.ensures.record c.in-Err.ensures.told)
 
-pub returns-else-may_turn-clause-record : goal.returns-else-may_turn-clause-record
-returns-else-may_turn-clause-record c = ap (λ (x : Turned). x.run) (step_none _ _ _ c.seat_of.ensures (omega arith) (sym c.if-may_turn.ensures))
-
-pub returns-else-may_turn-clause-told : goal.returns-else-may_turn-clause-told
-returns-else-may_turn-clause-told c = ap (λ (x : Turned). x.did) (step_none _ _ _ c.seat_of.ensures (omega arith) (sym c.if-may_turn.ensures))
+pub returns-in-Err-clause-told : goal.returns-in-Err-clause-told
+returns-in-Err-clause-told c =
+    ap (λ (x : Turned). x.did)
+    (step_err _ _ _ c.seat_of-at.ensures (omega arith) _ _ _ c.if-not-may_turn.ensures c.next_op.ensures c.made.ensures.record c.in-Err.ensures.told)
