@@ -5,7 +5,7 @@ ghost use Rattle.page.specs.Lines.{stock_line, station_line, most_station, numbe
 ghost use Rattle.page.specs.Page.{put_behind, code_at, codes_of};
 
 use super::fields::Page;
-use method::{Row, Run};
+use method::Row;
 use sets::limits::{CELLS, CODE, STATIONS, STOCKS};
 
 // How many stocks there are, and their codes in their cells, each with its length. There are no more stocks than cells, and no code is
@@ -26,6 +26,17 @@ impl<'a> Stocks<'a> {
         let start = k * CODE;
         &self.cells[start..start + self.lens[k].min(CODE)]
     }
+}
+
+// What a report tells: the numbers of its first line, the stocks, and the rows, of which the first are the stations'. There are no
+// more stations than rows.
+#[derive(Clone, Copy)]
+pub struct Report<'a> {
+    pub stations: u8,
+    pub turns: u16,
+    pub idle: u16,
+    pub stocks: Stocks<'a>,
+    pub rows: &'a [Row; STATIONS],
 }
 
 impl Page {
@@ -49,15 +60,16 @@ impl Page {
         }
     }
 
-    // A page with the report of a run of so many turns, of which so many were idle: every line.
+    // A page with a report: every line.
     #[tactic(auto, using(crate::proofs::Listed::report_put))]
-    pub fn of_report(run: &Run, turns: u16, idle: u16, stocks: &Stocks) -> Page
-        ensures { result.text.items ≡ report_lines run.now.stations turns idle (codes_of stocks.now) run.now.rows }
+    pub fn of_report(report: &Report) -> Page
+        ensures { result.text.items
+            ≡ report_lines report.now.stations report.now.turns report.now.idle (codes_of report.now.stocks) report.now.rows.now }
     {
         let mut page = Page::new();
-        page.put_run(u16::from(run.stations), turns, idle);
-        page.put_stocks(stocks);
-        page.put_stations(run.stations, &run.rows);
+        page.put_run(u16::from(report.stations), report.turns, report.idle);
+        page.put_stocks(&report.stocks);
+        page.put_stations(report.stations, report.rows);
         page
     }
 }

@@ -60,10 +60,6 @@ module _ (n : ℕ) (sets turns : List ℕ) (ready : Ready n sets turns) where
   unfolding fresh
   rows-there = (always-sound levels registers n sets fits turns (length turns)).shape.rows ∙ ready.sets_long
 
-  stations-there : (after (fresh n sets) turns (length turns)).stations ≡ n
-  unfolding fresh
-  stations-there = (always-sound levels registers n sets fits turns (length turns)).shape.counted
-
   module _ (start : Run) (played : Played) (s : start ≡ fresh n sets) (p : played ≡ played_of start turns) where
     made : played.run ≡ after (fresh n sets) turns (length turns)
     made = ran start played s p
@@ -81,8 +77,8 @@ module _ (n : ℕ) (sets turns : List ℕ) (ready : Ready n sets turns) where
 
     -- the lines of what was played are the report
     pub report-is : (text : List ℕ) (counts : ℕ) (codes : List (List ℕ)) → counts ≡ sum_by (λ (r : Row). r.count) (take n played.run.rows)
-        → text ≡ report_lines played.run.stations (length turns) (length turns - counts) codes played.run.rows → text ≡ report n sets codes turns
+        → text ≡ report_lines n (length turns) (length turns - counts) codes played.run.rows → text ≡ report n sets codes turns
     unfolding report
     report-is text counts codes c f =
         let idle : length turns - counts ≡ idle_turns (fresh n sets) turns (length turns) = omega (arith, counts-and-idle) in
-        f ∙ rw (idle, made, stations-there)
+        f ∙ rw (idle, made)

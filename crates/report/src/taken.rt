@@ -8,7 +8,7 @@ ghost use Rattle.report.specs.Ready.{Ready};
 use board::start::fresh;
 use method::Row;
 use page::fields::Page;
-use page::listing::Stocks;
+use page::listing::{Report, Stocks};
 use sets::limits::STATIONS;
 use turns::playing::play_out;
 
@@ -35,9 +35,20 @@ impl Taken<'_> {
         requires { Ready self.now.stations self.now.sets self.now.turns.now }
         ensures { result.text.items ≡ report self.now.stations self.now.sets (codes_of self.now.stocks) self.now.turns.now }
     {
-        let turns = self.turns;
-        let run = play_out(fresh(self.stations, self.sets), turns).run;
-        let idle = turns.len() - counted(&run.rows[..usize::from(self.stations)]);
-        Page::of_report(&run, turns.len() as u16, idle as u16, &self.stocks)
+        let Taken {
+            stations,
+            sets,
+            stocks,
+            turns,
+        } = *self;
+        let rows = play_out(fresh(stations, sets), turns).run.rows;
+        let idle = turns.len() - counted(&rows[..usize::from(stations)]);
+        Page::of_report(&Report {
+            stations,
+            turns: turns.len() as u16,
+            idle: idle as u16,
+            stocks,
+            rows: &rows,
+        })
     }
 }
