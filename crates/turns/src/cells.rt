@@ -15,7 +15,7 @@ fn held(sets: &[u64], at: usize) -> u64
     sets.get(at).copied().unwrap_or(0)
 }
 
-// The set is put at an index of a level's row, if there is one.
+// The set is put at an index of a level's row, if there is one. By a test, as the library's `get_mut` does not say what the row ends as.
 #[tactic(auto, using(crate::proofs::Holding::outside))]
 fn put(sets: &mut [u64], at: usize, set: u64)
     ensures { sets.new ≡ slice_set sets.old at set }
