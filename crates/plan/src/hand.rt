@@ -132,11 +132,10 @@ impl<'a> Hand<'a> {
 
     // The fields, each a code.
     #[tactic(auto, using(crate::proofs::Eaches::eaches))]
-    fn take_codes(&mut self, set: u64, fields: Fields<'a>) -> Result<u64, Fault>
+    fn take_codes(&mut self, mut set: u64, fields: Fields<'a>) -> Result<u64, Fault>
         ensures codes { coded result self.new.stocks.codes ≡ each take_code (holding self.old.stocks.codes set) (fields_left fields.entry) }
         ensures kept { self.new ≡ held self.old.stations (stocked self.new.stocks.codes self.old.stocks.sets) self.old.turns }
     {
-        let mut set = set;
         for field in fields {
             set = self.take_code(set, field)?;
         }
@@ -188,7 +187,8 @@ impl<'a> Hand<'a> {
         Ok(rest)
     }
 
-    // The lines of the text, of which the first is line 2.
+    // The lines of the text, of which the first is line 2. A place is counted beside the text that is left: as an iterator, whose items
+    // would be lines or refusals, this is no plainer.
     #[tactic(auto, using(crate::proofs::LineWays::lines))]
     pub(super) fn take_lines(&mut self, text: &'a [u8]) -> Result<(), Refusal>
         ensures { all_read result self.new ≡ later_lines 2 self.old (lines_of text.entry.now) }
