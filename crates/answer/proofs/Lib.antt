@@ -1,2 +1,4 @@
 -- Laws for the proofs of this crate.
 pub mod Laid
+pub mod Little
+pub mod Showing

@@ -18,13 +18,13 @@ use Rattle.turns.specs.declared.playing.Played.{Played}
 use Rattle.turns.specs.Moves.{count_end}
 use Rattle.turns.specs.Step.{step_of}
 use Rattle.turns.specs.Playing.{stepped, unwritten_step, stops_at, played_of}
-use Rattle.std.specs.Prelude.{Ok, Err}
+use Rattle.std.specs.Prelude.{Result, Ok, Err}
 use Rattle.verdict.specs.declared.Refusal.{Refusal}
-use Rattle.verdict.specs.declared.Refusal.TheVariants.{UnwrittenLine}
+use Rattle.verdict.specs.declared.Refusal.TheVariants.{BadStationCount, BadInputBytes, TooManyTurns, BadTurn, ShortAnswer, UnwrittenLine}
 use Rattle.run.specs.Inputs.{inputs_in}
 use Rattle.answer.specs.Answer.{answer_in}
-use Rattle.verdict.specs.Refusals.{first_bad, tests}
-use Rattle.run.specs.Call.{reads_unwritten, first_unwritten, begun, verdict_of, answered}
+use Rattle.verdict.specs.Refusals.{number_of, first_bad, tests}
+use Rattle.run.specs.Call.{reads_unwritten, first_unwritten, begun, verdict_of, answer_for, answered}
 use Rattle.verdict.proofs.Judging.{Taken, taken, stations-named}
 use Rattle.answer.proofs.Laid.{answer-with-room, answer-take}
 use Rattle.method.proofs.Firsts.{first-same, first-within}
@@ -114,7 +114,21 @@ pub refused-call : (n : ℕ) (inputs turns answer : List ℕ) (r : Refusal) → 
 unfolding verdict_of
 refused-call n inputs turns answer r e = rw (← e)
 
+-- every number but 0 leaves the answer as it was
+untouched : (n : ℕ) (inputs turns answer : List ℕ) (v : Result (Unit {0}) Refusal) → (number_of v ≡ 0 → ⊥) → answer_for n inputs turns answer v ≡ answer
+untouched n inputs turns answer (Ok made) e = absurd (e refl)
+untouched n inputs turns answer (Err refusal) e = refl
+
+refused-number : (r : Refusal) → number_of (Err r) ≡ 0 → ⊥
+refused-number BadStationCount e = omega (arith, e)
+refused-number BadInputBytes e = omega (arith, e)
+refused-number TooManyTurns e = omega (arith, e)
+refused-number (BadTurn at) e = omega (arith, e)
+refused-number ShortAnswer e = omega (arith, e)
+refused-number (UnwrittenLine at) e = omega (arith, e)
+
 pub refused-answer : (n : ℕ) (inputs turns answer : List ℕ) (r : Refusal) → Err r ≡ tests n (length inputs) turns (length answer) → answer ≡ answered n inputs turns answer
-refused-answer n inputs turns answer r e = rw (← refused-call n inputs turns answer r e)
+refused-answer n inputs turns answer r e =
+    rw (← refused-call n inputs turns answer r e, untouched n inputs turns answer (Err r) (refused-number r))
 
 pub ruleset outcomes = (stations-few, inputs-given, turns-few, stopped, stopped-answer, done, done-answer, refused-call, refused-answer)
