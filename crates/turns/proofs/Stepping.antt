@@ -3,11 +3,12 @@ use Prim.Native.Nat.{ℕ, ◌+◌, ◌-◌, ◌≤◌}
 use mathlib.Core.Path.{◌≡◌, refl, sym, ap, subst, ◌∙◌}
 use mathlib.Core.Bool.{Bool, true, false, cond, ◌&&◌, true≢false}
 use native.Mathlib.Omega.{arith}
-use borrow.Author.Tests.{leb-true, le-leb}
-use lib.Dec.{T as Holds, leb, ltb}
+use borrow.Author.Tests.{le-leb}
+use lib.Dec.{leb, ltb}
 use lib.ListN.{length, get_or, set}
 use Rattle.std.specs.Prelude.{Option, None, Some, Ok, Err}
 use Rattle.std.specs.Option.{ok_or}
+use Rattle.std.proofs.lemmas.Bool.{and_parts}
 use Rattle.method.specs.declared.State.{State}
 use Rattle.method.specs.declared.Op.{Op}
 use Rattle.method.specs.declared.Op.TheVariants.{Post, Write, Read, ReadLine, Rest}
@@ -24,14 +25,6 @@ use Rattle.turns.specs.Step.{step_of}
 use Rattle.turns.specs.Places.{seat_at}
 use Rattle.turns.proofs.Record.{with_rows}
 use Rattle.turns.proofs.Placing.{seat_own}
-
-and_left : (x y : Bool) → (x && y) ≡ true → x ≡ true
-and_left true y e = refl
-and_left false y e = absurd (subst (λ (z : Bool). Holds z) (sym e) tt)
-
-and_right : (x y : Bool) → (x && y) ≡ true → y ≡ true
-and_right true y e = e
-and_right false y e = absurd (subst (λ (z : Bool). Holds z) (sym e) tt)
 
 -- its row goes on as the method's
 pub going : (N i v : ℕ) (r : Row) (s : State) → 1 ≤ i → i ≤ 16 → s ≡ cond (leb 1 i && leb i 64) (absorb N i r.state v) r.state → row s (r.count + 1) ≡ onward N i r v
@@ -81,16 +74,16 @@ module _ (run : Run) (i : ℕ) where
     own_row low high = e ∙ seat_own i low high
 
     low : may ≡ true → 1 ≤ i
-    low h = leb-true _ _ (and_left _ _ (and_left _ _ (and_left _ _ h)))
+    low h = grind (arith, and_parts)
 
     within : may ≡ true → i ≤ run.stations
-    within h = leb-true _ _ (and_right (leb 1 i) _ (and_left _ _ (and_left _ _ h)))
+    within h = grind (arith, and_parts)
 
     high : may ≡ true → i ≤ 16
-    high h = leb-true _ _ (and_right (leb 1 i && leb i run.stations) _ (and_left _ _ h))
+    high h = grind (arith, and_parts)
 
     room : may ≡ true → ltb y.count count_end ≡ true
-    room h = and_right (leb 1 i && leb i run.stations && leb i 16) _ h
+    room h = (and_parts _ _ h).1
 
     step_made : (op : Op) → may ≡ true → op ≡ next_op i y.state → perform run i op ≡ step_of run i
     unfolding step_of turn named row_of
@@ -117,7 +110,7 @@ module _ (run : Run) (i : ℕ) where
 
         by : (x : Bool) → (leb 1 i && leb i run.stations && leb i 16) ≡ x → turned run Nobody ≡ step_of run i
         by true f =
-            let own : a ≡ i - 1 = own_row (leb-true _ _ (and_left _ _ (and_left _ _ f))) (leb-true _ _ (and_right (leb 1 i && leb i run.stations) _ f)) in
+            let own : a ≡ i - 1 = own_row (grind (arith, and_parts)) (grind (arith, and_parts)) in
             let full : ltb y.count count_end ≡ false = sym (rw f) ∙ h in
             let end : ltb (get_or run.rows (i - 1) (not_begun 0)).count count_end ≡ false = subst (λ (n : ℕ). ltb (get_or run.rows n (not_begun 0)).count count_end ≡ false) own full in
             rw end
