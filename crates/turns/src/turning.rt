@@ -11,7 +11,7 @@ use sets::limits::LAST_STATION;
 
 // The operation of station i is made on the board: what it brought, or what the turn was where none is made.
 #[tactic(auto, using(crate::proofs::Placing::seat_own), unfolding(method::specs::Board::with_line))]
-fn made(run: &mut Run, i: u8, op: Op) -> Result<u64, Did>
+fn perform(run: &mut Run, i: u8, op: Op) -> Result<u64, Did>
     requires first { 1 ≤ i }
     requires last { i ≤ 16 }
     requires board { length run.old.board ≡ levels }
@@ -44,7 +44,7 @@ fn made(run: &mut Run, i: u8, op: Op) -> Result<u64, Did>
 
 // Station i's row after its operation brought v: it counts one turn more.
 #[tactic(auto, using(crate::proofs::Stepping::going))]
-fn gone_on(depth: u8, i: u8, row: Row, v: u64) -> Row
+fn onward(depth: u8, i: u8, row: Row, v: u64) -> Row
     requires first { 1 ≤ i }
     requires last { i ≤ 16 }
     requires room { row.count < count_end }
@@ -77,9 +77,9 @@ pub fn step(run: &mut Run, i: u8) -> Did
     if !may_turn(run.stations, i, row.count) {
         return Did::Nobody;
     }
-    match made(run, i, station::next_op(i, row.state)) {
+    match perform(run, i, station::next_op(i, row.state)) {
         Ok(v) => {
-            run.rows[at] = gone_on(run.depth, i, row, v);
+            run.rows[at] = onward(run.depth, i, row, v);
             Did::Operation
         }
         Err(did) => did,
