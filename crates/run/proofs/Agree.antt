@@ -1,5 +1,5 @@
 -- A call that passed the tests: what is played on the record is the method's run, and the answer is its rows.
-use Prim.Native.Nat.{ℕ, zero, suc, ◌*◌, ◌≤◌, ◌<◌}
+use Prim.Native.Nat.{ℕ, zero, suc, ◌*◌, ◌%◌, ◌≤◌, ◌<◌}
 use mathlib.Core.Path.{◌≡◌, refl, sym, ap, ◌∙◌}
 use mathlib.Core.List.{List}
 use native.Mathlib.Nat.{le_antisymm, le_refl}
@@ -69,8 +69,11 @@ module _ (n : ℕ) (inputs turns answer : List ℕ) (e : Ok tt ≡ tests n (leng
   pub stations-few : n ≤ 16
   stations-few = t.high
 
-  pub inputs-given : length inputs ≡ 8 * n
-  inputs-given = t.given
+  pub inputs-few : length inputs ≤ 8 * 16
+  inputs-few = omega (arith, t.given, t.high)
+
+  pub inputs-whole : length inputs % 8 ≡ 0
+  inputs-whole = omega (arith, t.given)
 
   pub turns-few : length turns ≤ 4096
   turns-few = t.few
@@ -131,4 +134,4 @@ pub refused-answer : (n : ℕ) (inputs turns answer : List ℕ) (r : Refusal) �
 refused-answer n inputs turns answer r e =
     rw (← refused-call n inputs turns answer r e, untouched n inputs turns answer (Err r) (refused-number r))
 
-pub ruleset outcomes = (stations-few, inputs-given, turns-few, stopped, stopped-answer, done, done-answer, refused-call, refused-answer)
+pub ruleset outcomes = (stations-few, inputs-few, inputs-whole, turns-few, stopped, stopped-answer, done, done-answer, refused-call, refused-answer)

@@ -18,7 +18,7 @@ pub fn run_call(n: u64, inputs: &[u8], turns: &[u8], answer: &mut [u8]) -> Resul
 {
     tested(n, inputs.len(), turns, answer.len())?;
     let stations = n as usize;
-    let out = play_out(fresh(n as u8, inputs_of(stations, inputs)), turns);
+    let out = play_out(fresh(n as u8, inputs_of(inputs)), turns);
     if out.at < turns.len() {
         return Err(Refusal::UnwrittenLine { at: out.at as u16 });
     }

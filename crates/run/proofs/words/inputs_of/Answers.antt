@@ -1,5 +1,5 @@
 -- Chunk after chunk, the inputs that the definition has.
-use Rattle.std.proofs.Common.{◌≡◌, ◌/◌, ◌<◌, List, ℕ, ap, length, get_or, arith}
+use Rattle.std.proofs.Common.{◌≡◌, ◌*◌, ◌/◌, ◌<◌, List, ℕ, ap, length, get_or, arith}
 use Rattle.run.proofs.Little.{one-read, all_read, chunk_is}
 use Rattle.run.proofs.words.inputs_of.Goals as goal
 
@@ -12,5 +12,6 @@ loop-i-preserved c =
 
 pub returns : goal.returns
 returns c =
-    let full : c.loop-i.i ≡ c.args.n = omega (arith, c.as_chunks.ensures.front_len) in
-    all_read _ _ c.args.n c.requires.whole (rw full at c.loop-i.invariant)
+    let full : c.loop-i.i ≡ length c.args.bytes.now / 8 = omega (arith, c.as_chunks.ensures.front_len) in
+    let eights : length c.args.bytes.now ≡ 8 * (length c.args.bytes.now / 8) = omega arith in
+    all_read _ _ (length c.args.bytes.now / 8) eights (rw full at c.loop-i.invariant)
