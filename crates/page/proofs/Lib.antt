@@ -2,4 +2,4 @@
 pub mod Numerals
 pub mod Sizes
 mod Laying
-pub mod Listed
+mod Listed

@@ -9,12 +9,22 @@ use answer::shown::Shown;
 use arrayvec::ArrayVec;
 use itoa::Buffer;
 use std::io::Write;
+use std::marker::Model;
 
 // What is printed so far. There is room for every report, so nothing says how much is left: what has no room is cut off, and in one
 // place it is proved that nothing is.
 #[derive(Drop)]
 pub struct Page {
     text: ArrayVec<u8, PAGE>,
+}
+
+// To a contract a page is what stands on it.
+impl Model for Page {
+    ghost use Rattle.std.specs.Prelude.{List, ℕ};
+
+    ghost Value = { List ℕ };
+
+    ghost view = { λ page. page.text.items };
 }
 
 // A field of a line, behind its word. A set is shown once it has settled.
@@ -29,7 +39,7 @@ pub(super) enum Field<'a> {
 impl Page {
     // An empty page.
     pub(super) fn new() -> Page
-        ensures { result.text.items ≡ [] }
+        ensures { result ≡ [] }
     {
         Page {
             text: ArrayVec::new(),
@@ -38,7 +48,7 @@ impl Page {
 
     // What stands on it.
     pub fn as_bytes(&self) -> &[u8]
-        ensures { result.now ≡ self.now.text.items }
+        ensures { result.now ≡ self.now }
     {
         self.text.as_slice()
     }
@@ -46,7 +56,7 @@ impl Page {
     // Puts these bytes. The library's write takes as many as have room, and never fails.
     #[tactic(auto, using(crate::proofs::Laying::written))]
     fn put(&mut self, bytes: &[u8])
-        ensures { self.new.text.items ≡ put_behind self.old.text.items bytes.now }
+        ensures { self.new ≡ put_behind self.old bytes.now }
     {
         let _count = self.text.write(bytes);
     }
@@ -54,7 +64,7 @@ impl Page {
     // Puts a number in decimal. Not by write!: its contract does not say when it succeeds, and a report cannot fail.
     #[tactic(auto, using(crate::proofs::Numerals::decimal_is))]
     fn put_number(&mut self, x: u16)
-        ensures { self.new.text.items ≡ put_behind self.old.text.items (decimal x) }
+        ensures { self.new ≡ put_behind self.old (decimal x) }
     {
         let mut buffer = Buffer::new();
         self.put(buffer.format(x).as_bytes());
@@ -64,7 +74,7 @@ impl Page {
     #[tactic(auto, using(crate::proofs::Numerals::hex_given))]
     fn put_hex(&mut self, w: usize, set: u64)
         requires { w ≤ 16 }
-        ensures { self.new.text.items ≡ put_behind self.old.text.items (hex w set) }
+        ensures { self.new ≡ put_behind self.old (hex w set) }
     {
         let mut digits = [0u8; 16];
         let _fits = hex::encode_to_slice(set.to_be_bytes(), &mut digits);
@@ -73,7 +83,7 @@ impl Page {
 
     // Puts a field.
     fn put_field(&mut self, field: Field)
-        ensures { self.new.text.items ≡ put_behind self.old.text.items (field_shown field.entry) }
+        ensures { self.new ≡ put_behind self.old (field_shown field.entry) }
     {
         match field {
             Field::Code(bytes) => self.put(bytes),
@@ -86,7 +96,7 @@ impl Page {
 
     // Puts a line: its word, and its fields, each with a tab in front.
     pub(super) fn put_line(&mut self, word: &[u8], fields: &[Field])
-        ensures { self.new.text.items ≡ put_behind self.old.text.items (line (word.now ∷ map field_shown fields.now)) }
+        ensures { self.new ≡ put_behind self.old (line (word.now ∷ map field_shown fields.now)) }
     {
         self.put(word);
         for field in fields {

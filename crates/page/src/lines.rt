@@ -8,10 +8,11 @@ use answer::shown::Shown;
 use method::State;
 
 impl Page {
-    // A page with `NO`, number, place.
+    // A page with `NO`, number, place. It takes any two numbers, as it always promised of any: a refusal of a plan has the number of a
+    // fault alone, and to take one here would ask more of callers.
     #[tactic(auto, using(crate::proofs::Listed::refusal_put))]
     pub fn of_refusal(number: u16, place: u16) -> Page
-        ensures { result.text.items ≡ refusal_line number place }
+        ensures { result ≡ refusal_line number place }
     {
         let mut page = Page::new();
         page.put_line(b"NO", &[Field::Number(number), Field::Number(place)]);
@@ -21,7 +22,7 @@ impl Page {
     // `RUN`, n, turns, idle turns.
     #[tactic(auto, unfolding(crate::specs::Lines::run_line))]
     pub(super) fn put_run(&mut self, n: u16, turns: u16, idle: u16)
-        ensures { self.new.text.items ≡ put_behind self.old.text.items (run_line n turns idle) }
+        ensures { self.new ≡ put_behind self.old (run_line n turns idle) }
     {
         self.put_line(
             b"RUN",
@@ -32,7 +33,7 @@ impl Page {
     // `STOCK`, number, code.
     #[tactic(auto, unfolding(crate::specs::Lines::stock_line))]
     pub(super) fn put_stock(&mut self, k: u16, code: &[u8])
-        ensures { self.new.text.items ≡ put_behind self.old.text.items (stock_line k code.now) }
+        ensures { self.new ≡ put_behind self.old (stock_line k code.now) }
     {
         self.put_line(b"STOCK", &[Field::Number(k), Field::Code(code)]);
     }
@@ -40,7 +41,7 @@ impl Page {
     // `ST`, number, state, count, stations set, stocks set. Not from the row: how long a line is rests on the count's range, which is known
     // of a number that is passed.
     pub(super) fn put_station(&mut self, i: u16, state: State, count: u16)
-        ensures text { self.new.text.items ≡ put_behind self.old.text.items (station_line i (record { state = state; count = count })) }
+        ensures text { self.new ≡ put_behind self.old (station_line i (record { state = state; count = count })) }
         ensures upper_bound { length (station_line i (record { state = state; count = count })) ≤ most_station }
     {
         let shown = Shown::from(state);

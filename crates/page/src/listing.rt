@@ -8,8 +8,9 @@ use super::fields::Page;
 use method::Row;
 use sets::limits::{CELLS, CODE, STATIONS, STOCKS};
 
-// How many stocks there are, and their codes in their cells, each with its length. There are no more stocks than cells, and no code is
-// longer than its cell.
+// How many stocks there are, and their codes in their cells, each with its length. Of more stocks than cells only those that have a
+// cell are shown, and of a code longer than its cell only as much as a cell has. The cells and the lengths stand apart, since a plan that
+// is read is handed out so: they are two of the buffers that C lends.
 #[derive(Clone, Copy)]
 pub struct Stocks<'a> {
     pub count: usize,
@@ -28,8 +29,8 @@ impl<'a> Stocks<'a> {
     }
 }
 
-// What a report tells: the numbers of its first line, the stocks, and the rows, of which the first are the stations'. There are no
-// more stations than rows.
+// What a report tells: the numbers of its first line, the stocks, and the rows, of which the first are the stations'. Of more
+// stations than rows only those that have a row are shown.
 #[derive(Clone, Copy)]
 pub struct Report<'a> {
     pub stations: u8,
@@ -40,19 +41,19 @@ pub struct Report<'a> {
 }
 
 impl Page {
-    // A line for each stock. There are no more of them than cells. One loop for these lines and those of the stations would take a
-    // closure over the page, and be no plainer than the two.
+    // A line for each stock that has a cell. The loop counts, since a stock's cell and its length stand in two arrays, where its number
+    // finds them. One loop for these lines and those of the stations would take a closure over the page, and be no plainer than the two.
     fn put_stocks(&mut self, stocks: &Stocks)
-        ensures { self.new.text.items ≡ put_behind self.old.text.items (numbered stock_line 0 (codes_of stocks.now)) }
+        ensures { self.new ≡ put_behind self.old (numbered stock_line 0 (codes_of stocks.now)) }
     {
         for k in 0..stocks.count.min(STOCKS) {
             self.put_stock(k as u16, stocks.code(k));
         }
     }
 
-    // A line for each of n stations. There are no more of them than rows.
+    // A line for each of n stations that has a row.
     fn put_stations(&mut self, n: u8, rows: &[Row; STATIONS])
-        ensures text { self.new.text.items ≡ put_behind self.old.text.items (numbered station_line 1 (take n rows.now)) }
+        ensures text { self.new ≡ put_behind self.old (numbered station_line 1 (take n rows.now)) }
         ensures upper_bound { length (numbered station_line 1 (take n rows.now)) ≤ most_stations * most_station }
     {
         for (i, row) in rows[..usize::from(n).min(STATIONS)].iter().enumerate() {
@@ -63,7 +64,7 @@ impl Page {
     // A page with a report: every line.
     #[tactic(auto, using(crate::proofs::Listed::report_put))]
     pub fn of_report(report: &Report) -> Page
-        ensures { result.text.items
+        ensures { result
             ≡ report_lines report.now.stations report.now.turns report.now.idle (codes_of report.now.stocks) report.now.rows.now }
     {
         let mut page = Page::new();

@@ -7,9 +7,9 @@ use lib.ListN.{length, drop}
 use Rattle.std.specs.Prelude.{Ok, Err}
 use Rattle.report.specs.Printed.{answer_of, buffer_of}
 
-pub too-small : (text out : List ℕ) → length out < length text → (Err (record {}) ≡ answer_of text (length out)) × (out ≡ buffer_of text out)
+pub too_small : (text out : List ℕ) → length out < length text → (Err (record {}) ≡ answer_of text (length out)) × (out ≡ buffer_of text out)
 unfolding answer_of buffer_of
-too-small text out h = (rw (lt-leb (length text) (length out) h), rw (lt-leb (length text) (length out) h))
+too_small text out h = (rw (lt-leb (length text) (length out) h), rw (lt-leb (length text) (length out) h))
 
 pub handed : (text out : List ℕ) → length text ≤ length out → (Ok (length text) ≡ answer_of text (length out)) × (text ++ drop (length text) out ≡ buffer_of text out)
 unfolding answer_of buffer_of

@@ -77,15 +77,11 @@ read_off text r read sets cells lens turns a b c d e f g h i j =
     }
 
 -- the refusal that was read
-pub record Refused (text : List ℕ) (why : Refusal) : Type 0 where
-  pub fault : Fault
-  pub is : reading text ≡ refused fault why.place
-  pub number : number_of why.fault ≡ number_of fault
-
-pub refused_off : (text : List ℕ) (r : Result Counts Refusal) (why : Refusal) → r ≡ Err why → told r ≡ told_of (reading text) → Refused text why
-refused_off text r why e t =
+pub refused-off : (text : List ℕ) (r : Result Counts Refusal) (why : Refusal) → r ≡ Err why → told r ≡ told_of (reading text)
+    → (f : Fault) × (reading text ≡ refused f why.place) × (number_of why.fault ≡ number_of f)
+refused-off text r why e t =
     let g = refusal-told text (number_of why.fault) why.place (sym (ap told e) ∙ t) in
-    record { fault = g.fault; is = g.is; number = g.number_is }
+    (g.fault, g.is, g.number_is)
 
 module _ {text : List ℕ} {read : Counts} {sets cells lens turns : List ℕ} (r : ReadOff text read sets cells lens turns) where
   sound : Sound r.of
@@ -127,10 +123,9 @@ module _ {text : List ℕ} {read : Counts} {sets cells lens turns : List ℕ} (r
   unfolding printed
   report-is = rw (codes-back, turns-back, r.sets_are, ← r.stations, r.is)
 
-module _ {text : List ℕ} {why : Refusal} (r : Refused text why) where
-  pub refusal-is : refusal_line (number_of why.fault) why.place ≡ printed text
-  unfolding printed
-  refusal-is = rw (r.is, r.number)
+pub refusal_is : (text : List ℕ) (fault f : Fault) (number place : ℕ) → reading text ≡ refused f place → number_of fault ≡ number_of f → number ≡ number_of fault → refusal_line number place ≡ printed text
+unfolding printed
+refusal_is text fault f number place e g h = rw (e, h, g)
 
-  pub place-small : why.place < 65536
-  place-small = let m = place-most text r.fault why.place r.is in omega arith
+pub place-small : (text : List ℕ) (f : Fault) (place : ℕ) → reading text ≡ refused f place → place < 65536
+place-small text f place e = let m = place-most text f place e in omega arith

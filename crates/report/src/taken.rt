@@ -33,7 +33,7 @@ impl Taken<'_> {
     // The page with the report of its run.
     pub(super) fn report(&self) -> Page
         requires { Ready self.now.stations self.now.sets self.now.turns.now }
-        ensures { result.text.items ≡ report self.now.stations self.now.sets (codes_of self.now.stocks) self.now.turns.now }
+        ensures { result ≡ report self.now.stations self.now.sets (codes_of self.now.stocks) self.now.turns.now }
     {
         let Taken {
             stations,

@@ -11,7 +11,7 @@ use text::Refusal;
 
 // The page with the text that is printed of a plan's text.
 fn printed(text: &[u8]) -> Page
-    ensures { result.text.items ≡ printed text.now }
+    ensures { result ≡ printed text.now }
 {
     let mut sets = [0u64; STATIONS];
     let mut cells = [0u8; CELLS];

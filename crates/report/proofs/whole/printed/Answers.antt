@@ -1,5 +1,8 @@
-use mathlib.Core.Path.{◌∙◌}
-use Rattle.report.proofs.Printing.{ReadOff, read_off, turns-long, prefix-long, ready, report-is, Refused, refused_off, refusal-is, place-small}
+use mathlib.Core.Path.{◌≡◌, ◌∙◌}
+use Rattle.text.specs.declared.Fault.{Fault}
+use Rattle.text.specs.Refusal.{number_of}
+use Rattle.text.specs.Plan.{refused, reading}
+use Rattle.report.proofs.Printing.{ReadOff, read_off, turns-long, prefix-long, ready, report-is, refused-off, refusal_is, place-small}
 use Rattle.report.proofs.whole.printed.Goals as goal
 use Rattle.report.proofs.whole.printed.Goals.{In-Ok, In-Err}
 
@@ -10,8 +13,8 @@ off c =
     read_off _ c.read_plan.result _ _ _ _ _ _ _ _ _ c.in-Ok.is e.answer e.sets e.codes e.lens e.turns
 
 -- why it was refused
-why : (c : In-Err) → Refused c.args.text.now c.in-Err.field-0
-why c = refused_off _ c.read_plan.result _ c.in-Err.is c.read_plan.ensures.answer
+why : (c : In-Err) → (f : Fault) × (reading c.args.text.now ≡ refused f c.in-Err.field-0.place) × (number_of c.in-Err.field-0.fault ≡ number_of f)
+why c = refused-off _ c.read_plan.result _ c.in-Err.is c.read_plan.ensures.answer
 
 pub slice_bounds-turns-end : goal.slice_bounds-turns-end
 slice_bounds-turns-end c = turns-long (off (goal.at.slice_bounds-turns-end c).In-Ok)
@@ -23,10 +26,12 @@ pub report-requires : goal.report-requires
 report-requires c = ready (off (goal.at.report-requires c).In-Ok)
 
 pub overflow_cast-place : goal.overflow_cast-place
-overflow_cast-place c = record { fits = place-small (why (goal.at.overflow_cast-place c).In-Err) }
+overflow_cast-place c = let w = why (goal.at.overflow_cast-place c).In-Err in record { fits = place-small _ w.0 _ w.1 }
 
 pub returns-in-Ok : goal.returns-in-Ok
 returns-in-Ok c = c.report.ensures ∙ report-is (off (goal.at.returns-in-Ok c).In-Ok)
 
 pub returns-in-Err : goal.returns-in-Err
-returns-in-Err c = c.of_refusal.ensures ∙ rw (c.from-in-Err.ensures, c.from.ensures) (refusal-is (why (goal.at.returns-in-Err c).In-Err))
+returns-in-Err c =
+    let w = why (goal.at.returns-in-Err c).In-Err in
+    c.of_refusal.ensures ∙ refusal_is _ _ w.0 _ _ w.1 w.2 (c.from-in-Err.ensures ∙ c.from.ensures)

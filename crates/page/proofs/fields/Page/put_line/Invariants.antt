@@ -4,4 +4,4 @@ use Rattle.page.proofs.Laying.{begun}
 use Rattle.page.proofs.fields.Page.put_line.Given as goal
 
 abbrev pub invariant-loop-field : goal.invariant-loop-field
-invariant-loop-field l = l.self.text.items ≡ put_behind l.fn.self.text.items (begun l.word l.fields l.field-index)
+invariant-loop-field l = l.self ≡ put_behind l.fn.self (begun l.word l.fields l.field-index)

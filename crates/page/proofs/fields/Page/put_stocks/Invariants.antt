@@ -4,4 +4,4 @@ use Rattle.page.specs.Page.{put_behind, codes_from}
 use Rattle.page.proofs.fields.Page.put_stocks.Given as goal
 
 abbrev pub invariant-loop-k : goal.invariant-loop-k
-invariant-loop-k l = l.self.text.items ≡ put_behind l.initial.self.text.items (numbered stock_line 0 (codes_from l.stocks.cells.now l.stocks.lens.now 0 l.k))
+invariant-loop-k l = l.self ≡ put_behind l.initial.self (numbered stock_line 0 (codes_from l.stocks.cells.now l.stocks.lens.now 0 l.k))
