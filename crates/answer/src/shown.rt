@@ -13,23 +13,14 @@ pub enum Shown {
 }
 
 impl Shown {
-    // The settled stations; none until then.
-    pub(super) fn stations(self) -> u64
-        ensures { result ≡ stations_shown self }
+    // The settled stations and stocks; until then the answer's bytes have empty sets.
+    pub(super) fn sets(self) -> (u64, u64)
+        ensures stations { result.0 ≡ stations_shown self }
+        ensures stocks { result.1 ≡ stocks_shown self }
     {
         match self {
-            Shown::Settled { stations, .. } => stations,
-            Shown::NotBegun | Shown::UnderWay => 0,
-        }
-    }
-
-    // The settled stocks; none until then.
-    pub(super) fn stocks(self) -> u64
-        ensures { result ≡ stocks_shown self }
-    {
-        match self {
-            Shown::Settled { stocks, .. } => stocks,
-            Shown::NotBegun | Shown::UnderWay => 0,
+            Shown::Settled { stations, stocks } => (stations, stocks),
+            Shown::NotBegun | Shown::UnderWay => (0, 0),
         }
     }
 }

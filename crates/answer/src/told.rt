@@ -15,11 +15,12 @@ fn put_row(dst: &mut [u8], row: &Row)
     ensures { dst.new ≡ row_bytes row.now }
 {
     let shown = Shown::from(row.state);
+    let (stations, stocks) = shown.sets();
     dst[0] = u8::from(shown);
     dst[1] = 0;
     dst[2..4].copy_from_slice(&row.count.to_le_bytes());
-    dst[4..12].copy_from_slice(&shown.stations().to_le_bytes());
-    dst[12..20].copy_from_slice(&shown.stocks().to_le_bytes());
+    dst[4..12].copy_from_slice(&stations.to_le_bytes());
+    dst[12..20].copy_from_slice(&stocks.to_le_bytes());
 }
 
 // Puts the rows, one after the other. Not by chunks_exact_mut: what was written through a chunk is not known once its loan is over.

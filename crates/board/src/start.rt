@@ -5,7 +5,7 @@ ghost use Rattle.method.specs.Board.{depth, fresh};
 use method::{Level, Row, Run, State};
 use sets::limits::{LEVELS, STATIONS};
 
-// N: the least number with 2^N at least n.
+// N: the least number with 2^N at least n. By doubling, the form that is asked for here; by leading zeros is a request of its own.
 pub fn depth_of(n: u8) -> u8
     ensures { result ≡ depth n }
 {

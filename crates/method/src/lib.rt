@@ -88,6 +88,7 @@ pub enum Op {
 
 // The run record: the station count n, the number of levels N, the board, the posting lines and the stations' rows. A posting line X is the set of
 // stocks that was written to it, which may be empty, or `None` before it is written.
+// Lines and rows stand apart: a line is a register that every station may read, a row is its station's own.
 #[derive(Drop)]
 pub struct Run {
     pub stations: u8,

@@ -12,6 +12,7 @@ pub fn inputs_of(bytes: &[u8]) -> [u64; STATIONS]
     ensures { result ≡ inputs_in most_stations bytes.now }
 {
     let mut inputs = [0; STATIONS];
+    // Not by iter_mut: what was written through an item is not known once its loan is over.
     for (i, word) in bytes.as_chunks::<8>().0.iter().enumerate() {
         inputs[i] = u64::from_le_bytes(*word);
     }

@@ -2,7 +2,8 @@
 ghost use Rattle.std.specs.Prelude.{◌≡◌, ◌+◌, ◌-◌, ◌≤◌, min, cond, leb, Some, None};
 ghost use Rattle.sets.specs.Arrays.{array_length, own_array, other_array, place};
 
-// The length of level k's arrays. No level from 9 on is on any board, and no station number passes 255, so 256 stands for more.
+// The length of level k's arrays. No level from 9 on is on any board, and no station number passes 255, so 256 stands for more. The clause has it
+// so: the length is a number of registers for every level.
 #[tactic(auto, using(crate::proofs::Spans::lengths), unfolding(crate::specs::Arrays::array_length))]
 pub fn array_length(k: u8) -> u32
     ensures { result ≡ min (array_length k) 256 }
@@ -22,7 +23,7 @@ pub fn own_array(k: u8, i: u8) -> u32
     u32::from(i).div_ceil(array_length(k))
 }
 
-// The array beside it, over which the two are united; 0, which no array is, beside 0.
+// The array beside it, over which the two are united; beside 0, which no array is, 0, as the definition has it.
 #[tactic(auto, using(crate::proofs::Spans::beside))]
 pub fn other_array(k: u8, i: u8) -> u32
     ensures { result ≡ other_array k i }

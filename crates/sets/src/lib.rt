@@ -10,3 +10,6 @@ pub mod mask;
 
 // The arrays that a level is cut into.
 pub mod arrays;
+
+// What is returned for a refusal.
+pub mod placed;

@@ -17,7 +17,7 @@ pub fn union_of(a: u64, b: u64) -> u64
     a | b
 }
 
-// The set of i alone; the empty set where i is not from 1 to 64.
+// The set of i alone; the empty set, which is a set too, where i is not from 1 to 64.
 pub fn alone(i: u8) -> u64
     ensures { result ≡ alone_in 64 i }
 {

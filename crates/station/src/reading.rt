@@ -1,5 +1,6 @@
 // Reading an array from a set M, of which the first `known` registers are known to be filled.
-// Functions and not methods: the type stands with the method's definitions, in a crate that holds no code.
+// Functions and not methods: the type stands with the method's definitions, in a crate that holds no code, and a trait of one type's methods
+// would be no plainer.
 ghost use Rattle.std.specs.Prelude.{◌≡◌, true};
 ghost use Rattle.method.specs.Steps.{writing, pending, reach, wrote, found};
 

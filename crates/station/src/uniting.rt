@@ -17,7 +17,8 @@ fn changed_round(round: Round) -> Round
     }
 }
 
-// A union that is under way: what a station's state holds of it.
+// A union that is under way: what a station's state holds of it. The definitions have these as the parts of a state, which a pattern cannot bind
+// as one; here they travel together.
 #[derive(Clone, Copy)]
 pub struct Union {
     pub level: u8,
@@ -30,7 +31,7 @@ pub struct Union {
 impl Union {
     ghost use Rattle.station.specs.Hand.{state_of, in_hand, with_reading, agreed, reading_over, read_on, brought, absorb_union};
 
-    // The state of a station whose union goes on like this, at that side.
+    // The state of a station that goes on with this union, at that side.
     fn at(self, side: Side) -> State
         ensures { result ≡ State.Uniting self.level self.own self.other side self.round }
     {

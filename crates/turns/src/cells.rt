@@ -1,5 +1,6 @@
 // The registers and the lines of the record. One that is not on the record is empty, or was never written, and stays so.
-// How many levels the board has is what the record's type says: a contract repeats it where the record has not been read yet.
+// A register is named by level, array and register apart, as the definitions name it. How many levels the board has is what the record's type
+// says; without the clause the proof does not close where the record has not been read yet.
 ghost use Rattle.std.specs.Prelude.{◌≡◌, length, slice_index, slice_set};
 ghost use Rattle.method.specs.Board.{levels, line_of, register_of, with_register};
 

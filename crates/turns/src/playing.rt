@@ -7,7 +7,8 @@ use super::places::seat_of;
 use super::turning::step;
 use method::{Did, Row, Run, State};
 
-// The record when the turns are over, and how many were made: all, or those before the first that would read a line never written.
+// The record when the turns are over, and how many were made: all, or those before the first that would read a line never written. A count,
+// as the definitions have it (`stops_at`), and no mark for a stop.
 #[derive(Drop)]
 pub struct Played {
     pub run: Run,

@@ -7,6 +7,8 @@ ghost use Rattle.verdict.specs.Refusals.{number_of};
 // The refusals before the first turn.
 pub mod tests;
 
+use sets::placed::with_place;
+
 // The rows of the table in MODEL 7. A turn is named by its place, counted from 0.
 #[derive(Clone, Copy, Debug, PartialEq, Eq)]
 pub enum Refusal {
@@ -27,9 +29,9 @@ impl From<Refusal> for u32 {
             Refusal::BadStationCount => 1,
             Refusal::BadInputBytes => 2,
             Refusal::TooManyTurns => 3,
-            Refusal::BadTurn { at } => 4 + 100 * u32::from(at),
+            Refusal::BadTurn { at } => with_place(4, at),
             Refusal::ShortAnswer => 5,
-            Refusal::UnwrittenLine { at } => 6 + 100 * u32::from(at),
+            Refusal::UnwrittenLine { at } => with_place(6, at),
         }
     }
 }
