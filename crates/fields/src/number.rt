@@ -10,15 +10,15 @@ pub fn number(field: &[u8], hi: u8) -> Option<u8>
 {
     let (first, rest) = field.split_first()?;
     let mut v = match first {
-        b'1'..=b'9' => (first - b'0') as u32,
+        b'1'..=b'9' => u32::from(first - b'0'),
         _ => return None,
     };
-    let most = hi as u32;
+    let most = u32::from(hi);
     for b in rest {
         if !b.is_ascii_digit() || v > most {
             return None;
         }
-        v = v * 10 + (b - b'0') as u32;
+        v = v * 10 + u32::from(b - b'0');
     }
     if v > most {
         return None;

@@ -1,16 +1,17 @@
-// The reader of a plan: a window on the lent text with a place in it. Few functions go over it, each thin: they make it, say its
-// place, or leave the work to a scan of the slice from the place. `line_end` and `field_end` go through it from a plain slice and a
-// place, so that who cuts lines and fields holds slices alone.
+// The reader of a plan: a window on the lent text with a place in it. Few functions go over it, each thin: they make it, move it to
+// another place, or leave the work to a scan of the slice from the place. `line_end` and `field_end` go through it from a plain slice
+// and a place, so that who cuts lines and fields holds slices alone. The place stands beside the text, not a slice cut there: the
+// clauses of these two speak of a place, and the reader is a window with a place in it.
 ghost use Rattle.std.specs.Prelude.{◌≡◌, ℕ, Bool};
 ghost use Rattle.text.specs.Text as Text;
 ghost use Rattle.fields.specs.Window.{no_tab, end_of, Tests};
 
 use super::scan;
 
-#[derive(Clone, Copy, Debug)]
-pub struct Reader<'a> {
-    pub text: &'a [u8],
-    pub at: usize,
+#[derive(Clone, Copy)]
+struct Reader<'a> {
+    text: &'a [u8],
+    at: usize,
 }
 
 impl<'a> Reader<'a> {

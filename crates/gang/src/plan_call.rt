@@ -14,7 +14,7 @@ fn with_place(fault: Fault, place: usize) -> u32
     requires { with_place (number_of fault) place < 2 ^ 32 }
     ensures { result ≡ with_place (number_of fault) place }
 {
-    u8::from(fault) as u32 + 100 * (place as u32)
+    u32::from(u8::from(fault)) + 100 * (place as u32)
 }
 
 // Returns 0, with n and the numbers of stocks and of turns in `told`, or the refusal plus 100 times its place, and then every array is untouched.
@@ -36,7 +36,7 @@ pub extern "C" fn gang_read_plan(
 {
     match read_plan(text, sets, codes, lens, turns) {
         Ok(counts) => {
-            *told = [counts.stations as usize, counts.stocks, counts.turns];
+            *told = [usize::from(counts.stations), counts.stocks, counts.turns];
             0
         }
         Err(Refusal { fault, place }) => with_place(fault, place),

@@ -2,8 +2,8 @@
 pub mod Keys
 pub mod Cuts
 pub mod Words
-pub mod Turns
-pub mod Stocks
+pub mod TurnWays
+pub mod StockWays
 pub mod Eaches
 pub mod HasLines
 pub mod LineWays

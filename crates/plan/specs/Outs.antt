@@ -38,5 +38,5 @@ Stepped (Ok rest) text h h' = (length rest.now < length text) × ((k : ℕ) → 
 Stepped (Err fault) text h h' = (k : ℕ) → later_lines k h (lines_of text) ≡ refused fault k
 
 -- the counts of what is in hand
-abbrev pub counted : Held → Counts
-counted h = record { stations = h.stations; stocks = length h.stocks.codes; turns = length h.turns }
+abbrev pub counts_held : Held → Counts
+counts_held h = record { stations = h.stations; stocks = length h.stocks.codes; turns = length h.turns }

@@ -32,7 +32,7 @@ fn key_of(code: &[u8]) -> u64
 {
     let mut key = 0;
     for b in code {
-        key = key % 0x100_0000_0000_0000 * 256 + *b as u64;
+        key = key % 0x100_0000_0000_0000 * 256 + u64::from(*b);
     }
     key
 }

@@ -14,8 +14,11 @@ use text::{Counts, Fault, Refusal};
 
 mod buffers;
 mod code;
+mod codes;
 mod hand;
 mod line;
+mod stocks;
+mod turns;
 
 // Reads the lines of the text, of which the first is `GANG` with the number of stations.
 #[tactic(auto, using(crate::proofs::Whole::whole))]

@@ -1,11 +1,12 @@
 // The lines of a text, and the fields of a line, from the left.
-ghost use Rattle.std.specs.Prelude.{◌≡◌, ◌↔◌, IsTrue, []};
+ghost use Rattle.std.specs.Prelude.{◌≡◌, ◌≤◌, ◌↔◌, IsTrue, IfOk, []};
 ghost use Rattle.std.specs.Result.{MatchResult};
 ghost use Rattle.std.specs.Iterator.{YieldsFirstRef, item_count};
 ghost use Rattle.sets.specs.Absent.{unless_zero};
 ghost use Rattle.text.specs.Text.{fields_of};
-ghost use Rattle.text.specs.Plan.{word_of, gang_of};
+ghost use Rattle.text.specs.Plan.{word_of, gang_of, station};
 ghost use Rattle.plan.specs.Left.{fields_left, Cut, Strayed};
+ghost use Rattle.plan.specs.Outs.{gave};
 
 use fields::number::number;
 use fields::reader::{field_end, line_end};
@@ -54,6 +55,15 @@ pub(super) fn gang(line: &[u8]) -> Option<u8>
         return None;
     }
     number(field, LAST_STATION)
+}
+
+// The station that the field names, of so many.
+#[tactic(auto, using(crate::proofs::TurnWays::station_gave))]
+pub(super) fn station(stations: u8, field: &[u8]) -> Result<u8, Fault>
+    ensures gives { gave result ≡ station stations field.now }
+    ensures named { IfOk result (λ i. (1 ≤ i) × (i ≤ stations)) }
+{
+    number(field, stations).ok_or(Fault::BadStation)
 }
 
 // The fields of a line that are still to come: they stand in the rest of the line, if it has one.

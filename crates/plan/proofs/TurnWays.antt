@@ -8,7 +8,7 @@ use borrow.Author.Tests.{lt-ltb, le-ltb}
 use Rattle.std.specs.Option.{ok_or}
 use Rattle.std.specs.Prelude.{Option, Result, IfOk}
 use Rattle.sets.specs.Absent.{unless_zero}
-use Rattle.text.specs.Limits.{most_stations, most_turns}
+use Rattle.text.specs.Limits.{most_turns}
 use Rattle.text.specs.Number.{number_to}
 use Rattle.text.specs.Plan.{taken, no, each, station_in, station, take_turn, turn_line}
 use Rattle.text.specs.declared.Fault.{Fault}
@@ -24,11 +24,11 @@ pub station_gave : (n : ℕ) (f : List ℕ) (o : Option ℕ) (r : Result ℕ Fau
 unfolding station
 station_gave n f o r e h = ap gave (h ∙ ap (λ (p : Option ℕ). ok_or p BadStation) e) ∙ in_range (number_to n f)
 
-pub station_in_range : (n : ℕ) (f : List ℕ) (o : Option ℕ) (r : Result ℕ Fault) → o ≡ unless_zero (number_to n f) → r ≡ ok_or o BadStation → n ≤ most_stations
-    → IfOk r (λ i. (1 ≤ i) × (i ≤ most_stations))
-station_in_range n f o r e h m = rw (h, e) (named (number_to n f) (omega (arith, number-most n f)))
+pub station_in_range : (n : ℕ) (f : List ℕ) (o : Option ℕ) (r : Result ℕ Fault) → o ≡ unless_zero (number_to n f) → r ≡ ok_or o BadStation
+    → IfOk r (λ i. (1 ≤ i) × (i ≤ n))
+station_in_range n f o r e h = rw (h, e) (named (number_to n f) (number-most n f))
   where
-    named : (k : ℕ) → k ≤ most_stations → IfOk (ok_or (unless_zero k) BadStation) (λ i. (1 ≤ i) × (i ≤ most_stations))
+    named : (k : ℕ) → k ≤ n → IfOk (ok_or (unless_zero k) BadStation) (λ i. (1 ≤ i) × (i ≤ n))
     named zero m = tt
     named (suc k) m = (omega arith, m)
 
@@ -55,6 +55,6 @@ unfolding turn_line
 turns_some n turns [] h = absurd (h refl)
 turns_some n turns (f ∷ fs) h = refl
 
-pub ruleset turn_ways = (station_gave, station_in_range, turn_refused, turn_full, turn_taken)
+pub ruleset turn_ways = (turn_refused, turn_full, turn_taken)
 
 pub ruleset turn_lines = (turns_none, turns_some)
