@@ -9,6 +9,7 @@ use Rattle.std.specs.Prelude.{Result, Ok, Some}
 use Rattle.std.specs.Io.KnownBytes.{WriteAppends}
 use Rattle.std.proofs.lemmas.List.{take_min, map_more}
 use Rattle.text.specs.Text.{LF, tab}
+use Rattle.page.specs.declared.TheConstants.{PAGE}
 use Rattle.page.specs.declared.fields.Field.{Field}
 use Rattle.page.specs.Lines.{line}
 use Rattle.page.specs.Page.{put_behind, field_shown}
@@ -23,29 +24,29 @@ take-both (suc n) (x ∷ a) b =
     rw left (ap (λ (l : List ℕ). x ∷ l) (take-both n a b))
 
 -- what is put behind a text that was cut off is cut off as well
-pub behind-twice : (page a b : List ℕ) → put_behind (put_behind page a) b ≡ put_behind page (a ++ b)
+behind-twice : (page a b : List ℕ) → put_behind (put_behind page a) b ≡ put_behind page (a ++ b)
 unfolding put_behind
 behind-twice page a b =
-    let first : List ℕ = take (2310 - length page) a in
-    let left : 2310 - length (page ++ first) ≡ 2310 - length page - length first = omega (arith, length-append page first) in
-    append_assoc page first (take (2310 - length (page ++ first)) b)
-    ∙ ap (λ (l : List ℕ). page ++ l) (ap (λ (n : ℕ). first ++ take n b) left ∙ sym (take-both (2310 - length page) a b))
+    let first : List ℕ = take (PAGE - length page) a in
+    let left : PAGE - length (page ++ first) ≡ PAGE - length page - length first = omega (arith, length-append page first) in
+    append_assoc page first (take (PAGE - length (page ++ first)) b)
+    ∙ ap (λ (l : List ℕ). page ++ l) (ap (λ (n : ℕ). first ++ take n b) left ∙ sym (take-both (PAGE - length page) a b))
 
 pub behind_then : (page mid last a b c : List ℕ) → mid ≡ put_behind page a → last ≡ put_behind mid b → a ++ b ≡ c → last ≡ put_behind page c
 behind_then page mid last a b c e f g = f ∙ ap (λ (l : List ℕ). put_behind l b) e ∙ behind-twice page a b ∙ ap (put_behind page) g
 
 pub behind-nothing : (page : List ℕ) → page ≡ put_behind page []
 unfolding put_behind
-behind-nothing page = rw (take_all {A = ℕ} (2310 - length page) [] (omega arith)) (sym (append-nil page))
+behind-nothing page = rw (take_all {A = ℕ} (PAGE - length page) [] (omega arith)) (sym (append-nil page))
 
 -- what has room is put whole
-pub all-put : (text : List ℕ) → length text ≤ 2310 → put_behind [] text ≡ text
+pub all-put : (text : List ℕ) → length text ≤ PAGE → put_behind [] text ≡ text
 unfolding put_behind
-all-put text h = take_all 2310 text h
+all-put text h = take_all PAGE text h
 
-pub written : {E : Type 0} (page bytes last : List ℕ) (r : Result ℕ E) → r ≡ Ok (min (2310 - length page) (length bytes)) → WriteAppends (Some page) (Some last) r bytes → last ≡ put_behind page bytes
+pub written : {E : Type 0} (page bytes last : List ℕ) (r : Result ℕ E) → r ≡ Ok (min (PAGE - length page) (length bytes)) → WriteAppends (Some page) (Some last) r bytes → last ≡ put_behind page bytes
 unfolding put_behind
-written page bytes last r e f = rw e at f ∙ ap (λ (l : List ℕ). page ++ l) (take_min (2310 - length page) bytes)
+written page bytes last r e f = rw e at f ∙ ap (λ (l : List ℕ). page ++ l) (take_min (PAGE - length page) bytes)
 
 -- ---- a line, field by field
 

@@ -15,6 +15,7 @@ use Rattle.method.specs.Demand.{is_settled}
 use Rattle.answer.specs.declared.shown.Shown.{Shown}
 use Rattle.answer.specs.Answer.{shown_of, state_number, stations_shown, stocks_shown}
 use Rattle.text.specs.Limits.{most_code}
+use Rattle.page.specs.declared.TheConstants.{PAGE}
 use Rattle.page.specs.Digits.{decimal}
 use Rattle.page.specs.Lines.{ST, NO, line, refusal_line, run_line, stock_line, set_shown, station_line, numbered, report_lines, most_station}
 use Rattle.page.specs.Page.{put_behind, has_settled, code_at, codes_from, codes_in}
@@ -134,7 +135,7 @@ report_put n wide turns idle stocks cells lens none a b last rows h k l e w f g 
     let codes : List (List ℕ) = codes_in cells lens stocks in
     let run : List ℕ = run_line n turns idle in
     let few : length codes ≡ min stocks 64 = codes-length cells lens 0 (min stocks 64) in
-    let fits : length (report_lines n turns idle codes rows) ≤ 2310 =
+    let fits : length (report_lines n turns idle codes rows) ≤ PAGE =
     lines-most n turns idle codes rows (omega arith) (omega arith) (omega arith) (omega arith) (λ j m. codes-short cells lens 0 (min stocks 64) j (omega arith)) short in
     let f' : a ≡ put_behind [] run = rw (← w, ← e) f in
     behind_then [] b last (run ++ numbered stock_line 0 codes) (numbered station_line 1 (take n rows)) (report_lines n turns idle codes rows)

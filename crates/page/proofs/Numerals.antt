@@ -102,7 +102,7 @@ hex-bytes (suc k) n =
     ap encode_lower (bytes-last k n) ∙ encode-append lower_digits (bytes_high_first k (n / 256)) (n % 256 ∷ [])
     ∙ rw (two, first, last, hex-bytes k (n / 256), front) (sym (append_assoc (digits 16 (2 * k) (n / 16 / 16)) (digit (n / 16 % 16) ∷ []) (digit (n % 16) ∷ [])))
 
-pub hex-is : (w n : ℕ) → w ≤ 16 → drop (16 - w) (encode_lower (to_be_bytes w64 n)) ≡ hex w n
+hex-is : (w n : ℕ) → w ≤ 16 → drop (16 - w) (encode_lower (to_be_bytes w64 n)) ≡ hex w n
 hex-is w n h =
     let all : 16 - w + w ≡ 16 = omega arith in
     ap (drop (16 - w)) (hex-bytes 8 n ∙ ap (λ (m : ℕ). digits 16 m n) (sym all)) ∙ digits-last 16 (16 - w) w n

@@ -14,6 +14,7 @@ use Rattle.method.specs.Demand.{is_settled}
 use Rattle.answer.specs.Answer.{shown_of, state_number, stations_shown, stocks_shown}
 use Rattle.text.specs.Limits.{most_stations, most_stocks, most_code}
 use Rattle.text.specs.Text.{LF, tab}
+use Rattle.page.specs.declared.TheConstants.{PAGE}
 use Rattle.page.specs.Digits.{decimal}
 use Rattle.page.specs.Lines.{RUN, STOCK, ST, NO, line, refusal_line, run_line, stock_line, set_shown, station_line, most_run, most_stock, most_station, numbered, report_lines}
 use Rattle.page.proofs.Numerals.{digits-length, decimal-five}
@@ -38,7 +39,7 @@ line-more : (f g : List ℕ) (fs : List (List ℕ)) → length (line (f ∷ g �
 unfolding line
 line-more f g fs = length-append f (tab ∷ line (g ∷ fs))
 
-pub refusal-most : (number place : ℕ) → number < 100000 → place < 100000 → length (refusal_line number place) ≤ 2310
+pub refusal-most : (number place : ℕ) → number < 100000 → place < 100000 → length (refusal_line number place) ≤ PAGE
 unfolding refusal_line
 refusal-most number place h k =
     let a = decimal-five number h in
@@ -101,7 +102,7 @@ stations_most rows h counts =
 
 pub lines-most : (n turns idle : ℕ) (codes : List (List ℕ)) (rows : List Row) → n < 100000 → turns < 100000 → idle < 100000
     → length codes ≤ most_stocks → ((j : ℕ) → j < length codes → length (get_or codes j []) ≤ most_code)
-    → length (numbered station_line 1 (take n rows)) ≤ most_stations * most_station → length (report_lines n turns idle codes rows) ≤ 2310
+    → length (numbered station_line 1 (take n rows)) ≤ most_stations * most_station → length (report_lines n turns idle codes rows) ≤ PAGE
 unfolding report_lines
 lines-most n turns idle codes rows h k l few short c =
     let run = run_line n turns idle in

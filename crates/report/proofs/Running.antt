@@ -64,7 +64,7 @@ module _ (n : ℕ) (sets turns : List ℕ) (ready : Ready n sets turns) where
     made : played.run ≡ after (fresh n sets) turns (length turns)
     made = ran start played s p
 
-    pub rows-long : length played.run.rows ≡ 16
+    rows-long : length played.run.rows ≡ 16
     rows-long = ap (λ (r : Run). length r.rows) made ∙ rows-there
 
     pub counts-and-idle : sum_by (λ (r : Row). r.count) (take n played.run.rows) + idle_turns (fresh n sets) turns (length turns) ≡ length turns
