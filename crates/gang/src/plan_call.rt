@@ -1,23 +1,16 @@
 // The reading of a plan, for a program that keeps stations, stocks and turns in arrays of its own.
-ghost use Rattle.std.specs.Prelude.{◌≡◌, ◌^◌, ◌<◌};
-ghost use Rattle.sets.specs.Placed.{with_place};
+ghost use Rattle.std.specs.Prelude.{◌≡◌};
 ghost use Rattle.text.specs.Plan.{reading};
-ghost use Rattle.text.specs.Refusal.{number_of, returned};
+ghost use Rattle.text.specs.Refusal.{returned};
 ghost use Rattle.text.specs.Buffers.{told_of, counts_after, sets_after, codes_after, lens_after, turns_after};
 
 use plan::read_plan;
 use sets::limits::{CELLS, STATIONS, STOCKS, TURNS};
-use text::{Fault, Refusal};
-
-// A refusal and its place as one number. It fits, since a place is a line of the text.
-fn with_place(fault: Fault, place: usize) -> u32
-    requires { with_place (number_of fault) place < 2 ^ 32 }
-    ensures { result ≡ with_place (number_of fault) place }
-{
-    u32::from(u8::from(fault)) + 100 * (place as u32)
-}
+use sets::placed::with_place;
+use text::Refusal;
 
 // Returns 0, with n and the numbers of stocks and of turns in `told`, or the refusal plus 100 times its place, and then every array is untouched.
+// A place is a line of the text, so it fits.
 #[unsafe(no_mangle)]
 pub extern "C" fn gang_read_plan(
     text: &[u8],
@@ -39,6 +32,6 @@ pub extern "C" fn gang_read_plan(
             *told = [usize::from(counts.stations), counts.stocks, counts.turns];
             0
         }
-        Err(Refusal { fault, place }) => with_place(fault, place),
+        Err(Refusal { fault, place }) => with_place(fault.into(), place as u16),
     }
 }
