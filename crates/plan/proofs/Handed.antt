@@ -5,17 +5,18 @@ use mathlib.Core.List.{List, [], ◌∷◌, ◌++◌, map, append_assoc, append-
 use native.Mathlib.Omega.{arith}
 use native.Mathlib.Numerals.{add-one}
 use lib.ListN.{length, get_or, take, drop, set, length-append, length-map, replicate-append-replicate}
-use Rattle.std.proofs.lemmas.List.{drop-replicate, map-append}
-use lib.Seq.{set-append_seam, take-append_seam, drop-append-add, take-suc, length-take-le}
+use Rattle.std.proofs.lemmas.List.{drop-replicate, take-replicate, map-append}
+use borrow.Rule.Slice.PartMut.{mid_of, put_mid}
+use lib.Seq.{take_at, drop_at, set-append_seam, take-append_seam, drop-append-add, take-suc, length-take-le}
 use Rattle.text.specs.Limits.{most_stocks, most_turns, most_code}
 use Rattle.text.specs.Buffers.{zeros, padded, cells_of}
 use Rattle.text.proofs.Lengths.{padded-long, padded-none}
 
 -- ---- turns
 
-pub turns_put : (turns buffer : List ℕ) → buffer ≡ turns ++ drop (0 + length turns) (zeros most_turns) → buffer ≡ padded most_turns turns
+pub turns_put : (turns buffer : List ℕ) → buffer ≡ turns ++ drop (length turns) (zeros most_turns) → buffer ≡ padded most_turns turns
 unfolding padded
-turns_put turns buffer e = let z : 0 + length turns ≡ length turns = omega arith in e ∙ ap (λ (n : ℕ). turns ++ drop n (zeros most_turns)) z ∙ ap (λ (l : List ℕ). turns ++ l) (drop-replicate (length turns) most_turns 0)
+turns_put turns buffer e = e ∙ ap (λ (l : List ℕ). turns ++ l) (drop-replicate (length turns) most_turns 0)
 
 -- ---- lengths
 
@@ -33,19 +34,20 @@ module _ (x c : List ℕ) (n : ℕ) (room : length x + most_code ≤ n) (short :
   cells_long = omega (arith, length-append x (padded most_code c), padded-long most_code c short)
 
   -- a code into the cell behind x
-  cell-more : take (length x) (padded n x) ++ c ++ drop (length x + length c) (padded n x) ≡ padded n (x ++ padded most_code c)
+  cell-more : (at : ℕ) → length x ≡ at → put_mid at most_code (padded n x) (c ++ drop (length c) (mid_of at most_code (padded n x))) ≡ padded n (x ++ padded most_code c)
   unfolding padded
-  cell-more =
+  cell-more at e =
       let m : ℕ = n - length x in
-      let z : ℕ = n - length (x ++ padded most_code c) in
-      let rest : m - length c ≡ most_code - length c + z = let l : length (x ++ padded most_code c) ≡ length x + most_code = cells_long in omega arith in
-      let front : take (length x) (padded n x) ≡ x = take-append_seam x (zeros m) in
-      let behind : drop (length x + length c) (padded n x) ≡ zeros (m - length c) = drop-append-add x (zeros m) (length c) ∙ drop-replicate (length c) m 0 in
-      let both : zeros (most_code - length c) ++ zeros z ≡ zeros (most_code - length c + z) = replicate-append-replicate (most_code - length c) z 0 in
-      let left : take (length x) (padded n x) ++ c ++ drop (length x + length c) (padded n x) ≡ (x ++ c) ++ zeros (m - length c) = rw (front, behind) in
-      let right : padded n (x ++ padded most_code c) ≡ (x ++ c) ++ (zeros (most_code - length c) ++ zeros z) =
-      ap (λ (l : List ℕ). l ++ zeros z) (sym (append_assoc x c (zeros (most_code - length c)))) ∙ append_assoc (x ++ c) (zeros (most_code - length c)) (zeros z) in
-      left ∙ ap (λ (k : ℕ). (x ++ c) ++ zeros k) rest ∙ ap (λ (l : List ℕ). (x ++ c) ++ l) (sym both) ∙ sym right
+      let cell : take most_code (zeros m) ≡ zeros most_code = take-replicate most_code m 0 (omega arith) in
+      let rest : n - length (x ++ padded most_code c) ≡ m - most_code = let l : length (x ++ padded most_code c) ≡ length x + most_code = cells_long in omega arith in
+      rw (
+        take_at x (zeros m) at e,
+        drop_at x (zeros m) at e,
+        cell,
+        drop-replicate {X = ℕ} (length c) most_code 0,
+        drop-replicate {X = ℕ} most_code m 0,
+        rest,
+      ) (sym (append_assoc x (c ++ zeros (most_code - length c)) (zeros (m - most_code))))
 
 -- the cells of one code more
 cells-snoc : (cs : List (List ℕ)) (c : List ℕ) → cells_of (cs ++ (c ∷ [])) ≡ cells_of cs ++ padded most_code c
@@ -69,14 +71,13 @@ module _ (codes : List (List ℕ)) (k : ℕ) (c : List ℕ) (here : k < length c
   pub cells_filled : length (cells_of (take (k + 1) codes)) ≡ (k + 1) * most_code
   cells_filled = omega (arith, ap (λ (l : List (List ℕ)). length (cells_of l)) next, ap length (cells-snoc (take k codes) c), cells_long (cells_of (take k codes)) c (most_stocks * most_code) (omega arith) short)
 
-  pub cells_more : (cells cells' : List ℕ) → cells ≡ padded (most_stocks * most_code) (cells_of (take k codes))
-      → cells' ≡ take (k * most_code) cells ++ c ++ drop (k * most_code + length c) cells → cells' ≡ padded (most_stocks * most_code) (cells_of (take (k + 1) codes))
-  cells_more cells cells' e h =
-      h
-      ∙ ap (λ (l : List ℕ). take (k * most_code) l ++ c ++ drop (k * most_code + length c) l) e
-      ∙ ap (λ (m : ℕ). take m (padded (most_stocks * most_code) (cells_of (take k codes))) ++ c ++ drop (m + length c) (padded (most_stocks * most_code) (cells_of (take k codes)))) (sym filled)
-      ∙ cell-more (cells_of (take k codes)) c (most_stocks * most_code) (omega arith) short
-      ∙ ap (padded (most_stocks * most_code)) (sym (ap cells_of next ∙ cells-snoc (take k codes) c))
+  pub cells_more : (cells part : List ℕ) → cells ≡ padded (most_stocks * most_code) (cells_of (take k codes))
+      → part ≡ c ++ drop (length c) (mid_of (k * most_code) ((k + 1) * most_code - k * most_code) cells)
+      → put_mid (k * most_code) ((k + 1) * most_code - k * most_code) cells part ≡ padded (most_stocks * most_code) (cells_of (take (k + 1) codes))
+  cells_more cells part e h =
+      let twelve : (k + 1) * most_code - k * most_code ≡ most_code = omega arith in
+      let after : cells_of (take k codes) ++ padded most_code c ≡ cells_of (take (k + 1) codes) = sym (ap cells_of next ∙ cells-snoc (take k codes) c) in
+      rw (h, twelve, e) (cell-more (cells_of (take k codes)) c (most_stocks * most_code) (omega arith) short (k * most_code) filled ∙ ap (padded (most_stocks * most_code)) after)
 
   pub lens_more : (lens : List ℕ) → lens ≡ padded most_stocks (map length (take k codes)) → set lens k (length c) ≡ padded most_stocks (map length (take (k + 1) codes))
   lens_more lens e =

@@ -7,7 +7,7 @@ ghost use Rattle.plan.specs.Key.{key_on};
 use std::marker::Model;
 
 // A code is seen as its bytes alone. These do not give the fields back, which a derived `==` needs, so `is` stands for it.
-#[derive(Drop)]
+#[derive(Drop, Default)]
 pub(super) struct Code<'a> {
     key: u64,
     bytes: &'a [u8],
@@ -63,12 +63,5 @@ impl<'a> Code<'a> {
         ensures { result ≡ Text.same self.now other.now }
     {
         self.key == other.key && self.bytes == other.bytes
-    }
-}
-
-// No code yet, where the table has room.
-impl<'a> Default for Code<'a> {
-    fn default() -> Self {
-        Code::new(&[])
     }
 }

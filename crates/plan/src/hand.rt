@@ -102,7 +102,7 @@ impl<'a> Hand<'a> {
         }
     }
 
-    // Hands all of it out.
+    // Hands all of it out. The buffers are lent as the C interface has them.
     pub(super) fn hand_out(
         &self,
         sets: &mut [u64; STATIONS],
