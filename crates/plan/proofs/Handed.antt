@@ -4,10 +4,10 @@ use mathlib.Core.Path.{◌≡◌, refl, sym, ap, ◌∙◌}
 use mathlib.Core.List.{List, [], ◌∷◌, ◌++◌, map, append_assoc, append-nil}
 use native.Mathlib.Omega.{arith}
 use native.Mathlib.Numerals.{add-one}
-use lib.ListN.{length, get_or, take, drop, set, length-append, length-map, replicate-append-replicate}
+use lib.ListN.{length, get_or, take, drop, set, length-append, length-map}
 use Rattle.std.proofs.lemmas.List.{drop-replicate, take-replicate, map-append}
 use borrow.Rule.Slice.PartMut.{mid_of, put_mid}
-use lib.Seq.{take_at, drop_at, set-append_seam, take-append_seam, drop-append-add, take-suc, length-take-le}
+use lib.Seq.{take_at, drop_at, set-append_seam, take-suc, length-take-le}
 use Rattle.text.specs.Limits.{most_stocks, most_turns, most_code}
 use Rattle.text.specs.Buffers.{zeros, padded, cells_of}
 use Rattle.text.proofs.Lengths.{padded-long, padded-none}

@@ -2,10 +2,8 @@
 pub mod Keys
 pub mod Cuts
 pub mod Words
-pub mod TurnWays
+pub mod Stations
 pub mod StockWays
-pub mod Eaches
-pub mod HasLines
-pub mod LineWays
+pub mod LastLines
 pub mod Handed
 pub mod Whole

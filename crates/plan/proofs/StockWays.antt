@@ -15,8 +15,8 @@ use Rattle.sets.specs.Absent.{unless_zero}
 use Rattle.text.specs.Limits.{most_stocks, most_code}
 use Rattle.text.specs.Text.{same}
 use Rattle.text.specs.Code.{stock_of}
-use Rattle.text.specs.Plan.{taken, no, code, Holding, holding, with_stock, add_stock, take_code}
-use Rattle.text.specs.declared.Fault.TheVariants.{BadCode, MoreStocks}
+use Rattle.text.specs.Plan.{taken, no, code, holding, with_stock, add_stock}
+use Rattle.text.specs.declared.Fault.TheVariants.{MoreStocks}
 use Rattle.fields.specs.Measure.{length_of}
 use Rattle.fields.proofs.Measured.{no_code, a-code, within}
 use Rattle.fields.proofs.Scanned.{found}
@@ -47,16 +47,6 @@ module _ (codes : List (List ℕ)) (set : ℕ) (c : List ℕ) where
 
 pub ruleset stock_ways = (stock_known, stocks_full, stock_new)
 
-module _ (h : Holding) (f : List ℕ) where
-  pub code_refused : None ≡ unless_zero (length_of (code f)) → take_code h f ≡ no BadCode
-  unfolding take_code
-  code_refused e = rw (no_code f e)
-
-  module _ (n : ℕ) (e : Some n ≡ unless_zero (length_of (code f))) where
-    pub code_taken : take_code h f ≡ add_stock h (take n f)
-    unfolding take_code
-    code_taken = rw (a-code f n e)
-
 module _ (f : List ℕ) (n : ℕ) (e : Some n ≡ unless_zero (length_of (code f))) where
   pub code_size : length (take n f) ≡ n
   code_size = length-take-le n f (within f n e).2
@@ -64,4 +54,4 @@ module _ (f : List ℕ) (n : ℕ) (e : Some n ≡ unless_zero (length_of (code f
   pub code_short : length (take n f) ≤ most_code
   code_short = let m = within f n e in omega (arith, code_size)
 
-pub ruleset code_ways = (code_refused, code_taken, code_size, code_short)
+pub ruleset code_ways = (no_code, a-code, code_size, code_short)

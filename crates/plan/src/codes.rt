@@ -70,7 +70,7 @@ impl<'a> Codes<'a> {
     }
 
     // The field is a code, and goes into the set.
-    #[tactic(auto, using(crate::proofs::StockWays::code_ways))]
+    #[tactic(auto, using(crate::proofs::StockWays::code_ways), unfolding(text::specs::Plan::take_code))]
     fn take_code(&mut self, set: u64, field: &'a [u8]) -> Result<u64, Fault>
         ensures { coded result self.new ≡ take_code (holding self.old set) field.entry.now }
     {
@@ -81,7 +81,7 @@ impl<'a> Codes<'a> {
     }
 
     // The fields, each a code.
-    #[tactic(auto, using(crate::proofs::Eaches::eaches))]
+    #[tactic(auto, unfolding(text::specs::Plan::each))]
     pub(super) fn take_codes(&mut self, mut set: u64, fields: Fields<'a>) -> Result<u64, Fault>
         ensures { coded result self.new ≡ each take_code (holding self.old set) (fields_left fields.entry) }
     {

@@ -48,7 +48,6 @@ impl<'a> Hand<'a> {
     }
 
     // A line behind the first, in which no byte strays.
-    #[tactic(auto, using(crate::proofs::LineWays::line_ways))]
     fn take_line(&mut self, line: &'a [u8]) -> Result<(), Fault>
         ensures { out result self.new ≡ later_fields self.old (fields_of line.entry.now) }
     {
@@ -64,7 +63,7 @@ impl<'a> Hand<'a> {
     }
 
     // The first line of the text, and then the text behind it.
-    #[tactic(auto, using(crate::proofs::LineWays::lines))]
+    #[tactic(auto, unfolding(text::specs::Plan::later_lines, text::specs::Plan::later_line))]
     fn take_first(&mut self, text: &'a [u8]) -> Result<&'a [u8], Fault>
         requires { 0 < length text.now }
         ensures { Stepped result text.entry.now self.old self.new }
@@ -76,7 +75,7 @@ impl<'a> Hand<'a> {
 
     // The lines of the text, of which the first is line 2. They are no iterator: the end of a line and its fault come of one scan, which
     // looks at each byte once, so the items would be a line or a fault, and the loop the same, with a type and its laws more.
-    #[tactic(auto, using(crate::proofs::LineWays::lines))]
+    #[tactic(auto, using(crate::proofs::LastLines::lines_end))]
     pub(super) fn take_lines(&mut self, text: &'a [u8]) -> Result<(), Refusal>
         ensures { all_read result self.new ≡ later_lines 2 self.old (lines_of text.entry.now) }
     {

@@ -58,7 +58,7 @@ pub(super) fn gang(line: &[u8]) -> Option<u8>
 }
 
 // The station that the field names, of so many.
-#[tactic(auto, using(crate::proofs::TurnWays::station_gave))]
+#[tactic(auto, unfolding(text::specs::Plan::station))]
 pub(super) fn station(stations: u8, field: &[u8]) -> Result<u8, Fault>
     ensures gives { gave result ≡ station stations field.now }
     ensures named { IfOk result (λ i. (1 ≤ i) × (i ≤ stations)) }

@@ -37,7 +37,7 @@ impl<'a> Stocks<'a> {
     }
 
     // The fields of a `HAS` line behind its word, where the plan is of so many stations.
-    #[tactic(auto, using(crate::proofs::HasLines::has_ways), unfolding(text::specs::Plan::has_line))]
+    #[tactic(auto, unfolding(text::specs::Plan::has_line))]
     pub(super) fn has_line(&mut self, stations: u8, mut fields: Fields<'a>) -> Result<(), Fault>
         requires { stations ≤ most_stations }
         ensures { out result self.new ≡ has_line stations self.old (fields_left fields.entry) }

@@ -43,7 +43,7 @@ impl Turns {
     }
 
     // The field is one turn more, of one of so many stations.
-    #[tactic(auto, using(crate::proofs::TurnWays::turn_ways))]
+    #[tactic(auto, unfolding(text::specs::Plan::take_turn))]
     fn take_turn(&mut self, stations: u8, field: &[u8]) -> Result<(), Fault>
         ensures { out result self.new ≡ take_turn stations self.old field.now }
     {
@@ -56,7 +56,7 @@ impl Turns {
     }
 
     // The fields of a `TURN` line behind its word.
-    #[tactic(auto, using(crate::proofs::Eaches::eaches, crate::proofs::TurnWays::turn_lines))]
+    #[tactic(auto, unfolding(text::specs::Plan::each, text::specs::Plan::turn_line))]
     pub(super) fn turn_line(&mut self, stations: u8, fields: Fields) -> Result<(), Fault>
         ensures { out result self.new ≡ turn_line stations self.old (fields_left fields.entry) }
     {

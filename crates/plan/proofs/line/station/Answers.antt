@@ -1,4 +1,4 @@
-use Rattle.plan.proofs.TurnWays.{station_in_range}
+use Rattle.plan.proofs.Stations.{station_in_range}
 use Rattle.plan.proofs.line.station.Goals as goal
 
 pub returns-clause-named : goal.returns-clause-named
