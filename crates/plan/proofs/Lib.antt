@@ -1,7 +1,7 @@
 -- Laws that the check cites.
 pub mod Keys
 pub mod Cuts
-pub mod Words
+pub mod LastFields
 pub mod Stations
 pub mod StockWays
 pub mod LastLines

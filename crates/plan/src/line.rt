@@ -27,7 +27,7 @@ pub(super) fn first_line<'a>(text: &'a [u8]) -> Result<(&'a [u8], &'a [u8]), Fau
 }
 
 // The first field of a later line. It is compared word by word: a `match` on the bytes parts into a case for each byte to prove.
-#[tactic(auto, using(crate::proofs::Words::words))]
+#[tactic(auto, using(crate::proofs::Keys::same_bytes), unfolding(text::specs::Plan::word_of))]
 pub(super) fn word(field: &[u8]) -> Word
     ensures { result ≡ word_of field.now }
 {
@@ -41,7 +41,7 @@ pub(super) fn word(field: &[u8]) -> Word
 }
 
 // n, where the line is `GANG` and one number from 1 to 16.
-#[tactic(auto, using(crate::proofs::Words::gangs))]
+#[tactic(auto, using(crate::proofs::Keys::same_bytes), unfolding(text::specs::Plan::gang_of))]
 pub(super) fn gang(line: &[u8]) -> Option<u8>
     ensures { result ≡ unless_zero (gang_of (fields_of line.now)) }
 {

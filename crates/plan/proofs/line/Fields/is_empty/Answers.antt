@@ -1,4 +1,4 @@
-use Rattle.plan.proofs.Words.{none_left}
+use Rattle.plan.proofs.LastFields.{none_left}
 use Rattle.plan.proofs.line.Fields.is_empty.Goals as goal
 
 pub returns : goal.returns
