@@ -14,7 +14,8 @@ use sets::limits::{CELLS, STATIONS, STOCKS, TURNS};
 use std::marker::Model;
 use text::{Counts, Fault, Refusal, Word};
 
-// The number of stations, the stocks and the turns.
+// The number of stations, the stocks and the turns. Each part has methods of its own, so that a line that goes into one leaves the others
+// as they are.
 #[derive(Drop)]
 pub(super) struct Hand<'a> {
     stations: u8,

@@ -21,7 +21,7 @@ mod stocks;
 mod turns;
 
 // Reads the lines of the text, of which the first is `GANG` with the number of stations.
-#[tactic(auto, using(crate::proofs::Whole::whole))]
+#[tactic(auto, using(crate::proofs::Whole::whole), unfolding(text::specs::Plan::first_line, text::specs::Plan::reading))]
 fn read<'a>(text: &'a [u8]) -> Result<Hand<'a>, Refusal>
     ensures { read result ≡ reading text.entry.now }
 {
