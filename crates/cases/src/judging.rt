@@ -46,7 +46,7 @@ impl<'a> Call<'a> {
         }
     }
 
-    // Whether it is so. Every answer byte is EE hex before the call.
+    // Whether the call returns that number and gives that answer. Every answer byte is EE hex before it.
     fn agrees(&self) -> bool {
         let mut room = [0xee; ANSWER];
         match room.get_mut(..self.answer.len()) {

@@ -1,5 +1,5 @@
 -- A level's array length, counted no further than 256, serves as well as the length itself for every number below 256.
-use Prim.Native.Nat.{ℕ, zero, suc, ◌+◌, ◌-◌, ◌*◌, ◌/◌, ◌%◌, ◌^◌, ◌≤◌, ◌<◌, min}
+use Prim.Native.Nat.{ℕ, zero, suc, ◌+◌, ◌-◌, ◌*◌, ◌/◌, ◌%◌, ◌≤◌, ◌<◌, min}
 use mathlib.Core.Path.{◌≡◌, sym, ◌∙◌}
 use Rattle.std.specs.Prelude.{Some, None}
 use native.Mathlib.Nat.{mod-eq_of_lt, div-eq_of_lt, div-eq_of_lt-le, div-lt_iff_lt-mul, le-mul_of_pos_right, suc-mul, mul-le-mul}
@@ -89,7 +89,3 @@ placed k c j L e h =
     let s : array_length k ≤ 128 = length-short k h in
     let x : L ≡ array_length k = omega arith in
     rw (le-leb _ _ h, x)
-
--- and it stays far within a word
-pub place_fits : (c L m : ℕ) → c ≤ 2 ^ 32 → L ≡ min m 256 → c * L ≤ 2 ^ 40
-place_fits c L m h e = mul-le-mul {n₁ = c} {m₁ = L} {n₂ = 2 ^ 32} {m₂ = 256} h (omega arith)

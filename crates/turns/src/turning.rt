@@ -1,5 +1,6 @@
 // One turn on the run record, which its owner lends.
 ghost use Rattle.std.specs.Prelude.{◌≡◌, ◌≤◌, ◌<◌, length};
+ghost use Rattle.sets.specs.Limits.{most_stations};
 ghost use Rattle.method.specs.Board.{levels};
 ghost use Rattle.turns.specs.Moves.{count_end, may_turn, left, brought, onward};
 ghost use Rattle.turns.specs.Step.{step_of};
@@ -13,7 +14,7 @@ use sets::limits::LAST_STATION;
 #[tactic(auto, using(crate::proofs::Placing::seat_own), unfolding(method::specs::Board::with_line))]
 fn perform(run: &mut Run, i: u8, op: Op) -> Result<u64, Did>
     requires first { 1 ≤ i }
-    requires last { i ≤ 16 }
+    requires last { i ≤ most_stations }
     requires board { length run.old.board ≡ levels }
     ensures record { run.new ≡ left run.old i op }
     ensures told { result ≡ brought run.old op }
@@ -46,7 +47,7 @@ fn perform(run: &mut Run, i: u8, op: Op) -> Result<u64, Did>
 #[tactic(auto, using(crate::proofs::Stepping::going))]
 fn onward(depth: u8, i: u8, row: Row, v: u64) -> Row
     requires first { 1 ≤ i }
-    requires last { i ≤ 16 }
+    requires last { i ≤ most_stations }
     requires room { row.count < count_end }
     ensures { result ≡ onward depth i row v }
 {
