@@ -25,7 +25,7 @@ impl<'a> Model for Code<'a> {
     ghost invariant = { λ c. (c.key ≡ key_on 0 c.bytes.now) × (length c.bytes.now ≤ most_code) };
 }
 
-// The key of a code: its last eight bytes.
+// The key of a code: its last eight bytes. Not by from_be_bytes: a code may have fewer.
 #[tactic(auto, using(crate::proofs::Keys::keyed))]
 fn key_of(code: &[u8]) -> u64
     ensures { result ≡ key_on 0 code.now }
