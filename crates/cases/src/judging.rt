@@ -7,7 +7,8 @@ use run::call::run_call;
 // Room for the longest answer in the files, and more.
 const ANSWER: usize = 512;
 
-// An entry is the length of a plan, the plan, the length of its report, the report. A page has room for every report.
+// An entry is the length of a plan, the plan, the length of its report, the report. A page has room for every report; it is lent
+// here as in gangrun, since a function over both would be lent it too.
 #[tactic(auto, using(report::proofs::Sizes::suffices))]
 pub fn judge_plan(parts: &mut Parts) -> bool {
     let plan = parts.part();
@@ -36,7 +37,7 @@ impl<'a> Call<'a> {
         let turns = parts.part();
         let size = parts.number();
         let number = parts.number();
-        let answer = parts.bytes(size as usize);
+        let answer = parts.bytes(size);
         Call {
             stations,
             inputs,

@@ -29,9 +29,9 @@ impl<'a> Parts<'a> {
         }
     }
 
-    // The next bytes, so many.
-    pub fn bytes(&mut self, count: usize) -> &'a [u8] {
-        match self.rest.split_at_checked(count) {
+    // The next bytes, so many. No From goes from a u32 to a usize.
+    pub fn bytes(&mut self, count: u32) -> &'a [u8] {
+        match self.rest.split_at_checked(count as usize) {
             Some((bytes, rest)) => {
                 self.rest = rest;
                 bytes
@@ -46,6 +46,6 @@ impl<'a> Parts<'a> {
     // The next bytes, behind their length.
     pub fn part(&mut self) -> &'a [u8] {
         let count = self.number();
-        self.bytes(count as usize)
+        self.bytes(count)
     }
 }

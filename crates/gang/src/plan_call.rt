@@ -10,7 +10,7 @@ use sets::placed::with_place;
 use text::Refusal;
 
 // Returns 0, with n and the numbers of stocks and of turns in `told`, or the refusal plus 100 times its place, and then every array is untouched.
-// A place is a line of the text, so it fits.
+// A place is a line of the text, so it fits. The parameters are those that the header declares.
 #[unsafe(no_mangle)]
 pub extern "C" fn gang_read_plan(
     text: &[u8],

@@ -30,7 +30,8 @@ impl<'a> Stocks<'a> {
 }
 
 // What a report tells: the numbers of its first line, the stocks, and the rows, of which the first are the stations'. Of more
-// stations than rows only those that have a row are shown.
+// stations than rows only those that have a row are shown. The count stands beside all rows: one past them is told in the first line, and a
+// slice of rows would ask more of callers.
 #[derive(Clone, Copy)]
 pub struct Report<'a> {
     pub stations: u8,

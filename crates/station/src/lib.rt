@@ -15,7 +15,7 @@ use method::{Op, State};
 use sets::mask;
 use uniting::Union;
 
-// What station i does next.
+// What station i does next. Here and below a pattern binds the parts of a union one by one.
 #[tactic(auto, unfolding(method::specs::Steps::next_op))]
 pub fn next_op(i: u8, state: State) -> Op
     ensures { result ≡ next_op i state }

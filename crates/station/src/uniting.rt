@@ -107,7 +107,7 @@ impl Union {
     }
 
     // The reading in hand is over: after the own array comes the other, unless it is known in full.
-    // Inlined, as a call hands the union over in memory: the run call of 4,096 turns took 225,943 instructions, and takes 175,660.
+    // Inlined, as a call hands the union over in memory: in a trial the run call of 4,096 turns took 225,943 instructions without, 175,660 with it.
     #[tactic(auto, unfolding(method::specs::Steps::read_other))]
     #[inline]
     fn reading_over(self, n: u8) -> State

@@ -5,7 +5,7 @@ ghost use Rattle.verdict.specs.Refusals.{first_bad, tests};
 use super::Refusal;
 use sets::limits::{STATIONS, TURNS};
 
-// n is 64 bits wide.
+// n is 64 bits wide, and no From goes from a usize to that, here and below.
 const MOST: u64 = STATIONS as u64;
 
 // Whether it is a number from 1 to `last`.
