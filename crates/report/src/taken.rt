@@ -41,14 +41,15 @@ impl Taken<'_> {
             stocks,
             turns,
         } = *self;
-        let rows = play_out(fresh(stations, sets), turns).run.rows;
+        let played = play_out(fresh(stations, sets), turns);
+        let rows = &played.run.rows;
         let idle = turns.len() - counted(&rows[..usize::from(stations)]);
         Page::of_report(&Report {
             stations,
             turns: turns.len() as u16,
             idle: idle as u16,
             stocks,
-            rows: &rows,
+            rows,
         })
     }
 }
