@@ -9,9 +9,9 @@ ghost use Rattle.fields.specs.Window.{no_tab, end_of, Tests};
 use super::scan;
 
 #[derive(Clone, Copy)]
-struct Reader<'a> {
-    text: &'a [u8],
-    at: usize,
+pub struct Reader<'a> {
+    pub text: &'a [u8],
+    pub at: usize,
 }
 
 impl<'a> Reader<'a> {

@@ -5,5 +5,6 @@ pub mod LastFields
 pub mod Stations
 pub mod StockWays
 pub mod LastLines
+pub mod Cells
 pub mod Handed
 pub mod Whole

@@ -2,7 +2,7 @@
 use Rattle.std.specs.Prelude.{ℕ, ◌+◌, ◌<◌, ◌≡◌, List, length, Result, Ok, Err}
 use Rattle.std.specs.Borrow.{Bor}
 use Rattle.text.specs.Text.{lines_of}
-use Rattle.text.specs.Plan.{Out, taken, no, Holding, holding, Held, Reading, plan, refused, later_lines}
+use Rattle.text.specs.Plan.{Out, taken, no, Holding, holding, Held, fresh, Reading, plan, refused, later_lines}
 use Rattle.text.specs.declared.Fault.{Fault}
 use Rattle.text.specs.declared.Counts.{Counts}
 use Rattle.text.specs.declared.Refusal.{Refusal}
@@ -22,10 +22,10 @@ abbrev pub coded : Result ℕ Fault → List (List ℕ) → Out Holding
 coded (Ok set) codes = taken (holding codes set)
 coded (Err fault) codes = no fault
 
--- what the whole text gives
-abbrev pub read : Result Held Refusal → Reading
-read (Ok h) = plan h
-read (Err r) = refused r.fault r.place
+-- what the whole text gives: the number of stations and the text behind its first line, or it is refused there
+abbrev pub begun : Result (ℕ × Bor (List ℕ)) Refusal → Reading
+begun (Ok start) = later_lines 2 (fresh start.0) (lines_of start.1.now)
+begun (Err r) = refused r.fault r.place
 
 -- what the lines of a text give, and what is in hand after them
 abbrev pub all_read : Result (Unit {0}) Refusal → Held → Reading

@@ -7,7 +7,7 @@ use crate::code::Code;
 use sets::limits::{CELLS, CODE, STOCKS, TURNS};
 
 // The bytes, to the front of the buffer.
-fn put(bytes: &[u8], buffer: &mut [u8])
+pub(super) fn put(bytes: &[u8], buffer: &mut [u8])
     requires { length bytes.now ≤ length buffer.old }
     ensures { buffer.new ≡ bytes.now ++ drop (length bytes.now) buffer.old }
 {
@@ -24,9 +24,8 @@ pub(super) fn put_codes(codes: &[Code], cells: &mut [u8; CELLS], lens: &mut [usi
     *cells = [0; CELLS];
     *lens = [0; STOCKS];
     for (k, code) in codes.iter().enumerate() {
-        let bytes = code.bytes();
-        put(bytes, &mut cells[k * CODE..(k + 1) * CODE]);
-        lens[k] = bytes.len();
+        put(code.cell(), &mut cells[k * CODE..(k + 1) * CODE]);
+        lens[k] = code.bytes().len();
     }
 }
 

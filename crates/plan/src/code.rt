@@ -1,33 +1,37 @@
-// Codes in hand: the bytes of each stand in the text, and a key tells most codes apart.
+// A code in hand. It stands in a cell, as the C interface hands it out: its bytes in front, and 0 behind them. So it holds no more than it is
+// made of, and a table of codes begins as zeros.
 ghost use Rattle.std.specs.Prelude.{◌≡◌, ◌≤◌, length};
 ghost use Rattle.text.specs.Limits.{most_code};
 ghost use Rattle.text.specs.Text as Text;
+ghost use Rattle.text.specs.Buffers.{padded};
 ghost use Rattle.plan.specs.Key.{key_on};
 
+use crate::buffers::put;
+use sets::limits::CODE;
 use std::marker::Model;
 
 // A code is seen as its bytes alone. These do not give the fields back, which a derived `==` needs, so `is` stands for it.
 #[derive(Drop, Default)]
-pub(super) struct Code<'a> {
-    key: u64,
-    bytes: &'a [u8],
+pub(super) struct Code {
+    cell: [u8; CODE],
+    len: u8,
 }
 
-impl<'a> Model for Code<'a> {
-    ghost use Rattle.std.specs.Prelude.{ℕ, List, ◌≡◌, ◌≤◌, length};
+impl Model for Code {
+    ghost use Rattle.std.specs.Prelude.{ℕ, List, ◌≡◌, ◌≤◌, take};
     ghost use Rattle.text.specs.Limits.{most_code};
-    ghost use Rattle.plan.specs.Key.{key_on};
+    ghost use Rattle.text.specs.Buffers.{padded};
 
     ghost Value = { List ℕ };
 
-    ghost view = { λ c. c.bytes.now };
+    ghost view = { λ c. take c.len c.cell };
 
-    ghost invariant = { λ c. (c.key ≡ key_on 0 c.bytes.now) × (length c.bytes.now ≤ most_code) };
+    ghost invariant = { λ c. (c.len ≤ most_code) × (c.cell ≡ padded most_code (take c.len c.cell)) };
 }
 
-// The key of a code: its last eight bytes. Not by from_be_bytes: a code may have fewer.
+// The key of a code, which tells most codes apart: its last eight bytes. Not by from_be_bytes: a code may have fewer.
 #[tactic(auto, using(crate::proofs::Keys::keyed))]
-fn key_of(code: &[u8]) -> u64
+pub(super) fn key_of(code: &[u8]) -> u64
     ensures { result ≡ key_on 0 code.now }
 {
     let mut key = 0;
@@ -37,31 +41,41 @@ fn key_of(code: &[u8]) -> u64
     key
 }
 
-impl<'a> Code<'a> {
+impl Code {
     // The code of these bytes.
-    pub(super) fn new(bytes: &'a [u8]) -> Self
+    #[tactic(auto, using(crate::proofs::Cells::cells))]
+    pub(super) fn new(bytes: &[u8]) -> Self
         requires { length bytes.now ≤ most_code }
-        ensures { result ≡ bytes.entry.now }
+        ensures { result ≡ bytes.now }
     {
+        let mut cell = [0; CODE];
+        put(bytes, &mut cell);
         Code {
-            key: key_of(bytes),
-            bytes,
+            cell,
+            len: bytes.len() as u8,
         }
     }
 
     // Its bytes.
-    pub(super) fn bytes(&self) -> &'a [u8]
+    pub(super) fn bytes(&self) -> &[u8]
         ensures value { result.now ≡ self.now }
         ensures short { length result.now ≤ most_code }
     {
-        self.bytes
+        &self.cell[..usize::from(self.len)]
     }
 
-    // Whether the other code has the same bytes. Where the keys differ the bytes do.
-    #[tactic(auto, using(crate::proofs::Keys::compared))]
-    pub(super) fn is(&self, other: &Code) -> bool
-        ensures { result ≡ Text.same self.now other.now }
+    // Its cell.
+    pub(super) fn cell(&self) -> &[u8; CODE]
+        ensures { result.now ≡ padded most_code self.now }
     {
-        self.key == other.key && self.bytes == other.bytes
+        &self.cell
+    }
+
+    // Whether it has just these bytes.
+    #[tactic(auto, using(crate::proofs::Keys::same_bytes))]
+    pub(super) fn is(&self, bytes: &[u8]) -> bool
+        ensures { result ≡ Text.same bytes.now self.now }
+    {
+        bytes == self.bytes()
     }
 }

@@ -7,6 +7,7 @@ ghost use Rattle.text.specs.Buffers.{padded, cells_of};
 ghost use Rattle.plan.specs.Outs.{out, all_read, Stepped, counts_held};
 
 use crate::buffers::{put_codes, put_turns};
+use crate::codes::Codes;
 use crate::line::{Fields, first_line, word};
 use crate::stocks::Stocks;
 use crate::turns::Turns;
@@ -17,13 +18,13 @@ use text::{Counts, Fault, Refusal, Word};
 // The number of stations, the stocks and the turns. Each part has methods of its own, so that a line that goes into one leaves the others
 // as they are.
 #[derive(Drop)]
-pub(super) struct Hand<'a> {
+pub(super) struct Hand {
     stations: u8,
-    stocks: Stocks<'a>,
+    stocks: Stocks,
     turns: Turns,
 }
 
-impl<'a> Model for Hand<'a> {
+impl Model for Hand {
     ghost use Rattle.std.specs.Prelude.{◌≤◌};
     ghost use Rattle.text.specs.Limits.{most_stations};
     ghost use Rattle.text.specs.Plan.{Held, held};
@@ -35,7 +36,7 @@ impl<'a> Model for Hand<'a> {
     ghost invariant = { λ h. h.stations ≤ most_stations };
 }
 
-impl<'a> Hand<'a> {
+impl Hand {
     // No stock and no turn yet.
     pub(super) fn new(stations: u8) -> Self
         requires { stations ≤ most_stations }
@@ -43,14 +44,17 @@ impl<'a> Hand<'a> {
     {
         Hand {
             stations,
-            stocks: Stocks::new(),
+            stocks: Stocks {
+                codes: Codes::new(),
+                sets: [0; STATIONS],
+            },
             turns: Turns::new(),
         }
     }
 
     // A line behind the first, in which no byte strays.
-    fn take_line(&mut self, line: &'a [u8]) -> Result<(), Fault>
-        ensures { out result self.new ≡ later_fields self.old (fields_of line.entry.now) }
+    fn take_line(&mut self, line: &[u8]) -> Result<(), Fault>
+        ensures { out result self.new ≡ later_fields self.old (fields_of line.now) }
     {
         let mut fields = Fields::new(line);
         let Some(first) = fields.next() else {
@@ -65,7 +69,7 @@ impl<'a> Hand<'a> {
 
     // The first line of the text, and then the text behind it.
     #[tactic(auto, unfolding(text::specs::Plan::later_lines, text::specs::Plan::later_line))]
-    fn take_first(&mut self, text: &'a [u8]) -> Result<&'a [u8], Fault>
+    fn take_first<'a>(&mut self, text: &'a [u8]) -> Result<&'a [u8], Fault>
         requires { 0 < length text.now }
         ensures { Stepped result text.entry.now self.old self.new }
     {
@@ -77,8 +81,8 @@ impl<'a> Hand<'a> {
     // The lines of the text, of which the first is line 2. They are no iterator: the end of a line and its fault come of one scan, which
     // looks at each byte once, so the items would be a line or a fault, and the loop the same, with a type and its laws more.
     #[tactic(auto, using(crate::proofs::LastLines::lines_end))]
-    pub(super) fn take_lines(&mut self, text: &'a [u8]) -> Result<(), Refusal>
-        ensures { all_read result self.new ≡ later_lines 2 self.old (lines_of text.entry.now) }
+    pub(super) fn take_lines(&mut self, text: &[u8]) -> Result<(), Refusal>
+        ensures { all_read result self.new ≡ later_lines 2 self.old (lines_of text.now) }
     {
         let mut rest = text;
         let mut place = 2;

@@ -12,12 +12,12 @@ use std::marker::Model;
 use text::Fault;
 
 #[derive(Drop)]
-pub(super) struct Stocks<'a> {
-    pub(super) codes: Codes<'a>,
+pub(super) struct Stocks {
+    pub(super) codes: Codes,
     pub(super) sets: [u64; STATIONS],
 }
 
-impl<'a> Model for Stocks<'a> {
+impl Model for Stocks {
     ghost use Rattle.text.specs.Plan.{Stocked, stocked};
 
     ghost Value = { Stocked };
@@ -25,20 +25,10 @@ impl<'a> Model for Stocks<'a> {
     ghost view = { λ s. stocked s.codes s.sets };
 }
 
-impl<'a> Stocks<'a> {
-    // No stock yet.
-    pub(super) fn new() -> Self
-        ensures { result ≡ stocked [] (replicate most_stations 0) }
-    {
-        Stocks {
-            codes: Codes::new(),
-            sets: [0; STATIONS],
-        }
-    }
-
+impl Stocks {
     // The fields of a `HAS` line behind its word, where the plan is of so many stations.
     #[tactic(auto, unfolding(text::specs::Plan::has_line))]
-    pub(super) fn has_line(&mut self, stations: u8, mut fields: Fields<'a>) -> Result<(), Fault>
+    pub(super) fn has_line(&mut self, stations: u8, mut fields: Fields) -> Result<(), Fault>
         requires { stations ≤ most_stations }
         ensures { out result self.new ≡ has_line stations self.old (fields_left fields.entry) }
     {
