@@ -1,5 +1,5 @@
 -- Laws for the proofs of this crate.
 pub mod Numerals
 pub mod Sizes
-mod Laying
+pub mod Laying
 mod Listed

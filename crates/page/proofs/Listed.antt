@@ -17,18 +17,15 @@ use Rattle.answer.specs.Answer.{shown_of, state_number, stations_shown, stocks_s
 use Rattle.text.specs.Limits.{most_code}
 use Rattle.page.specs.declared.TheConstants.{PAGE}
 use Rattle.page.specs.Digits.{decimal}
-use Rattle.page.specs.Lines.{ST, NO, line, refusal_line, run_line, stock_line, set_shown, station_line, numbered, report_lines, most_station}
+use Rattle.page.specs.Lines.{ST, line, refusal_line, run_line, stock_line, set_shown, station_line, numbered, report_lines, most_station}
 use Rattle.page.specs.Page.{put_behind, has_settled, code_at, codes_from, codes_in}
-use Rattle.page.proofs.Laying.{behind_then, behind-nothing, all-put}
+use Rattle.page.proofs.Laying.{behind_then, behind-nothing}
 use Rattle.page.proofs.Sizes.{refusal-most, lines-most}
 
 -- ---- a refusal, a station
 
-pub refusal_put : (start last : List ℕ) (number place : ℕ) → number < 65536 → place < 65536 → start ≡ [] → last ≡ put_behind start (line (NO ∷ decimal number ∷ decimal place ∷ []))
-    → last ≡ refusal_line number place
-unfolding refusal_line
-refusal_put start last number place h k e f =
-    f ∙ rw e (all-put (refusal_line number place) (refusal-most number place (omega arith) (omega arith)))
+pub refusal_fits : (number place : ℕ) → number < 65536 → place < 65536 → length (refusal_line number place) ≤ PAGE
+refusal_fits number place h k = refusal-most number place (omega arith) (omega arith)
 
 settled_too : (s : State) → has_settled (shown_of s) ≡ is_settled s
 settled_too (NotBegun stocks) = refl
@@ -127,17 +124,17 @@ module _ (rows : List Row) where
 
 -- ---- the report
 
-pub report_put : (n wide turns idle stocks : ℕ) (cells lens none a b last : List ℕ) (rows : List Row) → wide < 65536 → turns < 65536 → idle < 65536 → none ≡ [] → wide ≡ n
-    → a ≡ put_behind none (run_line wide turns idle) → b ≡ put_behind a (numbered stock_line 0 (codes_in cells lens stocks)) → last ≡ put_behind b (numbered station_line 1 (take n rows))
-    → length (numbered station_line 1 (take n rows)) ≤ 16 * most_station → last ≡ report_lines n turns idle (codes_in cells lens stocks) rows
+pub report_put : (n wide turns idle : ℕ) (codes : List (List ℕ)) (start a b last : List ℕ) (rows : List Row) → wide ≡ n → a ≡ put_behind start (run_line wide turns idle)
+    → b ≡ put_behind a (numbered stock_line 0 codes) → last ≡ put_behind b (numbered station_line 1 (take n rows)) → last ≡ put_behind start (report_lines n turns idle codes rows)
 unfolding report_lines
-report_put n wide turns idle stocks cells lens none a b last rows h k l e w f g i short =
-    let codes : List (List ℕ) = codes_in cells lens stocks in
+report_put n wide turns idle codes start a b last rows w f g i =
     let run : List ℕ = run_line n turns idle in
-    let few : length codes ≡ min stocks 64 = codes-length cells lens 0 (min stocks 64) in
-    let fits : length (report_lines n turns idle codes rows) ≤ PAGE =
-    lines-most n turns idle codes rows (omega arith) (omega arith) (omega arith) (omega arith) (λ j m. codes-short cells lens 0 (min stocks 64) j (omega arith)) short in
-    let f' : a ≡ put_behind [] run = rw (← w, ← e) f in
-    behind_then [] b last (run ++ numbered stock_line 0 codes) (numbered station_line 1 (take n rows)) (report_lines n turns idle codes rows)
-    (behind_then [] a b run (numbered stock_line 0 codes) (run ++ numbered stock_line 0 codes) f' g refl) i refl
-    ∙ all-put (report_lines n turns idle codes rows) fits
+    let f' : a ≡ put_behind start run = rw (← w) f in
+    behind_then start b last (run ++ numbered stock_line 0 codes) (numbered station_line 1 (take n rows)) (report_lines n turns idle codes rows)
+    (behind_then start a b run (numbered stock_line 0 codes) (run ++ numbered stock_line 0 codes) f' g refl) i refl
+
+pub report_fits : (n turns idle stocks : ℕ) (cells lens : List ℕ) (rows : List Row) → n < 256 → turns < 65536 → idle < 65536
+    → length (numbered station_line 1 (take n rows)) ≤ 16 * most_station → length (report_lines n turns idle (codes_in cells lens stocks) rows) ≤ PAGE
+report_fits n turns idle stocks cells lens rows h k l short =
+    let few : length (codes_in cells lens stocks) ≡ min stocks 64 = codes-length cells lens 0 (min stocks 64) in
+    lines-most n turns idle (codes_in cells lens stocks) rows (omega arith) (omega arith) (omega arith) (omega arith) (λ j m. codes-short cells lens 0 (min stocks 64) j (omega arith)) short

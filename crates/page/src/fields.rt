@@ -38,7 +38,7 @@ pub(super) enum Field<'a> {
 
 impl Page {
     // An empty page.
-    pub(super) fn new() -> Page
+    pub fn new() -> Page
         ensures { result ≡ [] }
     {
         Page {

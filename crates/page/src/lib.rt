@@ -7,8 +7,8 @@ pub const PAGE: usize = 2310;
 // The page, and the fields of a line.
 pub mod fields;
 
-// The lines, and the page of a refusal.
+// The lines, and the one of a refusal.
 pub mod lines;
 
-// The page of a report.
+// The report.
 pub mod listing;

@@ -1,22 +1,22 @@
-// The lines of a report, and the page of a refusal.
+// The lines of a report, and the one of a refusal.
 ghost use Rattle.std.specs.Prelude.{◌≡◌, ◌≤◌, length};
 ghost use Rattle.page.specs.Lines.{refusal_line, run_line, stock_line, station_line, most_station};
 ghost use Rattle.page.specs.Page.{put_behind};
 
+use super::PAGE;
 use super::fields::{Field, Page};
 use answer::shown::Shown;
 use method::State;
 
 impl Page {
-    // A page with `NO`, number, place. It takes any two numbers, as it always promised of any: a refusal of a plan has the number of a
-    // fault alone, and to take one here would ask more of callers.
-    #[tactic(auto, using(crate::proofs::Listed::refusal_put))]
-    pub fn of_refusal(number: u16, place: u16) -> Page
-        ensures { result ≡ refusal_line number place }
+    // `NO`, number, place: all of a refusal, which has room on a new page. It takes any two numbers, as it always promised of any: a
+    // refusal of a plan has the number of a fault alone, and to take one here would ask more of callers.
+    #[tactic(auto, using(crate::proofs::Listed::refusal_fits), unfolding(crate::specs::Lines::refusal_line))]
+    pub fn put_refusal(&mut self, number: u16, place: u16)
+        ensures text { self.new ≡ put_behind self.old (refusal_line number place) }
+        ensures upper_bound { length (refusal_line number place) ≤ PAGE }
     {
-        let mut page = Page::new();
-        page.put_line(b"NO", &[Field::Number(number), Field::Number(place)]);
-        page
+        self.put_line(b"NO", &[Field::Number(number), Field::Number(place)]);
     }
 
     // `RUN`, n, turns, idle turns.

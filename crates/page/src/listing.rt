@@ -1,9 +1,10 @@
-// The page of a report.
+// The report.
 ghost use Rattle.std.specs.Prelude.{◌≡◌, ◌*◌, ◌<◌, ◌≤◌, length, take};
 ghost use Rattle.text.specs.Limits.{most_stations, most_stocks};
 ghost use Rattle.page.specs.Lines.{stock_line, station_line, most_station, numbered, report_lines};
 ghost use Rattle.page.specs.Page.{put_behind, code_at, codes_of};
 
+use super::PAGE;
 use super::fields::Page;
 use method::Row;
 use sets::limits::{CELLS, CODE, STATIONS, STOCKS};
@@ -62,16 +63,15 @@ impl Page {
         }
     }
 
-    // A page with a report: every line.
-    #[tactic(auto, using(crate::proofs::Listed::report_put))]
-    pub fn of_report(report: &Report) -> Page
-        ensures { result
-            ≡ report_lines report.now.stations report.now.turns report.now.idle (codes_of report.now.stocks) report.now.rows.now }
+    // Every line of a report, which has room on a new page.
+    #[tactic(auto, using(crate::proofs::Listed::report_put, crate::proofs::Listed::report_fits))]
+    pub fn put_report(&mut self, report: &Report)
+        ensures text { self.new
+            ≡ put_behind self.old (report_lines report.now.stations report.now.turns report.now.idle (codes_of report.now.stocks) report.now.rows.now) }
+        ensures upper_bound { length (report_lines report.now.stations report.now.turns report.now.idle (codes_of report.now.stocks) report.now.rows.now) ≤ PAGE }
     {
-        let mut page = Page::new();
-        page.put_run(u16::from(report.stations), report.turns, report.idle);
-        page.put_stocks(&report.stocks);
-        page.put_stations(report.stations, report.rows);
-        page
+        self.put_run(u16::from(report.stations), report.turns, report.idle);
+        self.put_stocks(&report.stocks);
+        self.put_stations(report.stations, report.rows);
     }
 }

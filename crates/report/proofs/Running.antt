@@ -75,10 +75,12 @@ module _ (n : ℕ) (sets turns : List ℕ) (ready : Ready n sets turns) where
         let all : counts_of (after (fresh n sets) turns (length turns)) n + idle_turns (fresh n sets) turns (length turns) ≡ length turns = counts-add-up fits turns (length turns) ready.named in
         rw sum all
 
+    -- turns less counts are the idle turns
+    pub idle-is : length turns - sum_by (λ (r : Row). r.count) (take n played.run.rows) ≡ idle_turns (fresh n sets) turns (length turns)
+    idle-is = omega (arith, counts-and-idle)
+
     -- the lines of what was played are the report
-    pub report-is : (text : List ℕ) (counts : ℕ) (codes : List (List ℕ)) → counts ≡ sum_by (λ (r : Row). r.count) (take n played.run.rows)
-        → text ≡ report_lines n (length turns) (length turns - counts) codes played.run.rows → text ≡ report n sets codes turns
+    pub report-is : (counts : ℕ) (codes : List (List ℕ)) → counts ≡ sum_by (λ (r : Row). r.count) (take n played.run.rows)
+        → report_lines n (length turns) (length turns - counts) codes played.run.rows ≡ report n sets codes turns
     unfolding report
-    report-is text counts codes c f =
-        let idle : length turns - counts ≡ idle_turns (fresh n sets) turns (length turns) = omega (arith, counts-and-idle) in
-        f ∙ rw (idle, made)
+    report-is counts codes c = rw (c, idle-is, made)

@@ -1,7 +1,7 @@
 -- How long a report can be.
 use Prim.Native.Nat.{ℕ, suc, ◌-◌, ◌≤◌, ◌<◌}
-use mathlib.Core.Path.{◌≡◌, refl}
-use mathlib.Core.List.{List}
+use mathlib.Core.Path.{◌≡◌, refl, ◌∙◌}
+use mathlib.Core.List.{List, []}
 use native.Mathlib.Nat.{le_trans}
 use borrow.Author.Tests.{le-leb}
 use native.Mathlib.Omega.{arith}
@@ -16,6 +16,8 @@ use Rattle.method.specs.Demand.{Fits, idle_turns}
 use Rattle.method.proofs.Demand3.{fits-board, counts-add-up, count-within}
 use Rattle.text.specs.Refusal.{number_of}
 use Rattle.text.specs.Plan.{Held, Reading, plan, refused, reading}
+use Rattle.page.specs.Page.{put_behind}
+use Rattle.page.proofs.Laying.{all-put}
 use Rattle.page.proofs.Sizes.{refusal-most, lines-most, stations_most}
 use Rattle.report.specs.Printed.{report, report_of, printed, most_printed, answer_of}
 use Rattle.text.specs.Sound.{Sound}
@@ -74,6 +76,10 @@ printed-most text = go (reading text) refl
 pub always-whole : (text : List ℕ) (room : ℕ) → most_printed ≤ room → answer_of (printed text) room ≡ Ok (length (printed text))
 unfolding answer_of
 always-whole text room h = rw (le-leb (length (printed text)) room (le_trans (printed-most text) h))
+
+-- and on a new page a printed text stands whole
+pub on_new_page : (text page last : List ℕ) → page ≡ [] → last ≡ put_behind page (printed text) → last ≡ printed text
+on_new_page text page last e f = f ∙ rw e (all-put (printed text) (printed-most text))
 
 -- for a program that has a page
 pub ruleset suffices = (printed-most, always-whole, length-take-le)

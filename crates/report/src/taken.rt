@@ -1,7 +1,7 @@
 // A plan that is taken, and the report of its run.
 ghost use Rattle.std.specs.Prelude.{◌≡◌, ◌^◌, ◌<◌};
 ghost use Rattle.std.specs.List.{sum_by};
-ghost use Rattle.page.specs.Page.{codes_of};
+ghost use Rattle.page.specs.Page.{put_behind, codes_of};
 ghost use Rattle.report.specs.Printed.{report};
 ghost use Rattle.report.specs.Ready.{Ready};
 
@@ -30,10 +30,10 @@ fn counted(rows: &[Row]) -> usize
 }
 
 impl Taken<'_> {
-    // The page with the report of its run.
-    pub(super) fn report(&self) -> Page
+    // Puts the report of its run.
+    pub(super) fn put_report(&self, page: &mut Page)
         requires { Ready self.now.stations self.now.sets self.now.turns.now }
-        ensures { result ≡ report self.now.stations self.now.sets (codes_of self.now.stocks) self.now.turns.now }
+        ensures { page.new ≡ put_behind page.old (report self.now.stations self.now.sets (codes_of self.now.stocks) self.now.turns.now) }
     {
         let Taken {
             stations,
@@ -44,12 +44,12 @@ impl Taken<'_> {
         let played = play_out(fresh(stations, sets), turns);
         let rows = &played.run.rows;
         let idle = turns.len() - counted(&rows[..usize::from(stations)]);
-        Page::of_report(&Report {
+        page.put_report(&Report {
             stations,
             turns: turns.len() as u16,
             idle: idle as u16,
             stocks,
             rows,
-        })
+        });
     }
 }

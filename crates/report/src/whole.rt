@@ -1,5 +1,6 @@
 // From a plan's text to the printed text.
 ghost use Rattle.std.specs.Prelude.{◌≡◌, length};
+ghost use Rattle.page.specs.Page.{put_behind};
 ghost use Rattle.report.specs.Printed.{printed, answer_of, buffer_of};
 
 use super::TooSmall;
@@ -9,9 +10,9 @@ use page::listing::Stocks;
 use sets::limits::{CELLS, STATIONS, STOCKS, TURNS};
 use text::Refusal;
 
-// The page with the text that is printed of a plan's text.
-fn printed(text: &[u8]) -> Page
-    ensures { result ≡ printed text.now }
+// Puts the text that is printed of a plan's text.
+fn put_printed(text: &[u8], page: &mut Page)
+    ensures { page.new ≡ put_behind page.old (printed text.now) }
 {
     let mut sets = [0u64; STATIONS];
     let mut cells = [0u8; CELLS];
@@ -28,9 +29,9 @@ fn printed(text: &[u8]) -> Page
             },
             turns: &turns[..counts.turns],
         }
-        .report(),
+        .put_report(page),
         Err(Refusal { fault, place }) => {
-            Page::of_refusal(u16::from(u8::from(fault)), place as u16)
+            page.put_refusal(u16::from(u8::from(fault)), place as u16);
         }
     }
 }
@@ -48,10 +49,12 @@ fn hand_out(text: &[u8], out: &mut [u8]) -> Result<usize, TooSmall>
 }
 
 // Reads a plan, runs it and prints its report into `out`: the text and its length. A buffer that is too small is left untouched.
+#[tactic(auto, using(crate::proofs::Sizes::on_new_page))]
 pub fn print_plan(text: &[u8], out: &mut [u8]) -> Result<usize, TooSmall>
     ensures value { result ≡ answer_of (printed text.now) (length out.old) }
     ensures out_after { out.new ≡ buffer_of (printed text.now) out.old }
 {
-    let page = printed(text);
+    let mut page = Page::new();
+    put_printed(text, &mut page);
     hand_out(page.as_bytes(), out)
 }

@@ -1,6 +1,8 @@
 use native.Mathlib.Omega.{arith}
+use mathlib.Core.Path.{ap, ◌∙◌}
+use Rattle.page.specs.Page.{put_behind}
 use Rattle.report.proofs.Running.{counts-and-idle, report-is}
-use Rattle.report.proofs.taken.Taken.report.Goals as goal
+use Rattle.report.proofs.taken.Taken.put_report.Goals as goal
 
 pub counted-requires : goal.counted-requires
 counted-requires c =
@@ -13,4 +15,6 @@ overflow_sub-idle c =
     omega (arith, counts, counts-and-idle _ _ _ c.requires _ _ c.fresh.ensures c.play_out-played.ensures)
 
 pub returns : goal.returns
-returns c = report-is _ _ _ c.requires _ _ c.fresh.ensures c.play_out-played.ensures _ _ _ (rw c.from.ensures at c.counted.ensures) c.of_report.ensures
+returns c =
+    c.put_report.ensures.text
+    ∙ ap (put_behind _) (report-is _ _ _ c.requires _ _ c.fresh.ensures c.play_out-played.ensures _ _ (rw c.from.ensures at c.counted.ensures))
