@@ -5,7 +5,7 @@ use mathlib.Core.List.{List, [], ◌∷◌, ◌++◌, map, append_assoc, append-
 use native.Mathlib.Omega.{arith}
 use lib.ListN.{length, get_or, take, length-append}
 use lib.Seq.{take_all}
-use Rattle.std.specs.Prelude.{Result, Ok, Some}
+use Rattle.std.specs.Prelude.{Result, Ok, Err, IsOk, OnOk, OnErr, ◌↔◌, Some}
 use Rattle.std.specs.Io.KnownBytes.{WriteAppends}
 use Rattle.std.proofs.lemmas.List.{take_min, map_more}
 use Rattle.text.specs.Text.{LF, tab}
@@ -47,6 +47,16 @@ all-put text h = take_all PAGE text h
 pub written : {E : Type 0} (page bytes last : List ℕ) (r : Result ℕ E) → r ≡ Ok (min (PAGE - length page) (length bytes)) → WriteAppends (Some page) (Some last) r bytes → last ≡ put_behind page bytes
 unfolding put_behind
 written page bytes last r e f = rw e at f ∙ ap (λ (l : List ℕ). page ++ l) (take_min (PAGE - length page) bytes)
+
+pub pushed : {A E : Type 0} (page last : List ℕ) (byte : ℕ) (r : Result A E) → (IsOk r ↔ (length page < PAGE)) → OnOk r (last ≡ page ++ byte ∷ []) → OnErr r (last ≡ page) → OnErr r (length page ≡ PAGE)
+    → last ≡ put_behind page (byte ∷ [])
+unfolding put_behind
+pushed page last byte (Ok x) has ok err full =
+    let room : length page < PAGE = has.0 refl in
+    ok ∙ ap (λ (l : List ℕ). page ++ l) (sym (take_all (PAGE - length page) (byte ∷ []) (omega arith)))
+pushed page last byte (Err x) has ok err full =
+    let none : PAGE - length page ≡ 0 = omega (arith, full) in
+    err ∙ rw none (sym (append-nil page))
 
 -- ---- a line, field by field
 

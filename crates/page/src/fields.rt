@@ -61,6 +61,14 @@ impl Page {
         let _count = self.text.write(bytes);
     }
 
+    // Puts one byte, where it has room.
+    #[tactic(auto, using(crate::proofs::Laying::pushed))]
+    fn put_byte(&mut self, byte: u8)
+        ensures { self.new ≡ put_behind self.old (byte ∷ []) }
+    {
+        let _fits = self.text.try_push(byte);
+    }
+
     // Puts a number in decimal. Not by write!: its contract does not say when it succeeds, and a report cannot fail.
     #[tactic(auto, using(crate::proofs::Numerals::decimal_is))]
     fn put_number(&mut self, x: u16)
@@ -90,7 +98,7 @@ impl Page {
             Field::Number(x) => self.put_number(x),
             Field::Stations(Shown::Settled { stations, .. }) => self.put_hex(4, stations),
             Field::Stocks(Shown::Settled { stocks, .. }) => self.put_hex(16, stocks),
-            Field::Stations(_) | Field::Stocks(_) => self.put(b"-"),
+            Field::Stations(_) | Field::Stocks(_) => self.put_byte(b'-'),
         }
     }
 
@@ -100,9 +108,9 @@ impl Page {
     {
         self.put(word);
         for field in fields {
-            self.put(b"\t");
+            self.put_byte(b'\t');
             self.put_field(*field);
         }
-        self.put(b"\n");
+        self.put_byte(b'\n');
     }
 }

@@ -6,7 +6,7 @@ pub loop-field-init : goal.loop-field-init
 loop-field-init c = none_begun _ _ _ c.args.fields.now c.put.ensures
 
 pub loop-field-preserved : goal.loop-field-preserved
-loop-field-preserved c = one_field _ _ _ _ _ _ _ _ c.loop-field-test.true c.loop-field.invariant c.put-in-loop-field.ensures c.put_field.ensures
+loop-field-preserved c = one_field _ _ _ _ _ _ _ _ c.loop-field-test.true c.loop-field.invariant c.put_byte.ensures c.put_field.ensures
 
 pub returns : goal.returns
 returns c = search (line_put, rules)
