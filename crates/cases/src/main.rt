@@ -31,6 +31,8 @@ impl fmt::Display for Tally {
 }
 
 // Every entry of a file, from the first on. One that differs is told. An entry takes a byte at least, so there are no more of them than bytes.
+// Not inlined: what an entry needs of the stack is not taken while a file is read.
+#[inline(never)]
 fn run_all<F: Fn(&mut Parts) -> bool>(rt: &HostRuntime, path: &str, file: &[u8], judge: F) -> Tally
     requires { F.IsAlwaysCallable judge }
 {
@@ -58,12 +60,17 @@ fn read_file(rt: &HostRuntime, path: &str, file: &mut [u8]) -> io::Result<usize>
     read_all(&mut File::open(rt, path)?, file)
 }
 
-// A file that cannot be read whole is told, and has no entries. Where standard error fails too, nothing can be told.
-fn run_file<F: Fn(&mut Parts) -> bool>(rt: &HostRuntime, path: &str, judge: F) -> Tally
+// A file that cannot be read whole is told, and has no entries. Where standard error fails too, nothing can be told. The room is lent, so
+// that there is one for all files.
+fn run_file<F: Fn(&mut Parts) -> bool>(
+    rt: &HostRuntime,
+    path: &str,
+    file: &mut [u8],
+    judge: F,
+) -> Tally
     requires { F.IsAlwaysCallable judge }
 {
-    let mut file = [0; FILE];
-    match read_file(rt, path, &mut file) {
+    match read_file(rt, path, file) {
         Ok(count) => run_all(rt, path, &file[..count], judge),
         Err(why) => {
             let _ = eprintln!(rt; "{path}: {why}");
@@ -73,8 +80,9 @@ fn run_file<F: Fn(&mut Parts) -> bool>(rt: &HostRuntime, path: &str, judge: F) -
 }
 
 fn main(rt: HostRuntime) {
-    let plans = run_file(&rt, "plans.bin", judge_plan);
-    let calls = run_file(&rt, "calls.bin", judge_call);
-    let long = run_file(&rt, "J_and_K.bin", judge_call);
+    let mut file = [0; FILE];
+    let plans = run_file(&rt, "plans.bin", &mut file, judge_plan);
+    let calls = run_file(&rt, "calls.bin", &mut file, judge_call);
+    let long = run_file(&rt, "J_and_K.bin", &mut file, judge_call);
     let _ = println!(rt; "{plans} plans, {calls} calls, {long} calls of J and K agree");
 }
