@@ -80,7 +80,7 @@ module _ (n : ℕ) (sets turns : List ℕ) (ready : Ready n sets turns) where
     idle-is = omega (arith, counts-and-idle)
 
     -- the lines of what was played are the report
-    pub report-is : (counts : ℕ) (codes : List (List ℕ)) → counts ≡ sum_by (λ (r : Row). r.count) (take n played.run.rows)
-        → report_lines n (length turns) (length turns - counts) codes played.run.rows ≡ report n sets codes turns
+    pub report-is : (text : List ℕ) (counts : ℕ) (codes : List (List ℕ)) → counts ≡ sum_by (λ (r : Row). r.count) (take n played.run.rows)
+        → text ≡ report_lines n (length turns) (length turns - counts) codes played.run.rows → text ≡ report n sets codes turns
     unfolding report
-    report-is counts codes c = rw (c, idle-is, made)
+    report-is text counts codes c f = f ∙ rw (c, idle-is, made)

@@ -1,5 +1,5 @@
 use native.Mathlib.Omega.{arith}
-use mathlib.Core.Path.{ap, ◌∙◌}
+use mathlib.Core.Path.{refl, ap, ◌∙◌}
 use Rattle.page.specs.Page.{put_behind}
 use Rattle.report.proofs.Running.{counts-and-idle, report-is}
 use Rattle.report.proofs.taken.Taken.put_report.Goals as goal
@@ -17,4 +17,4 @@ overflow_sub-idle c =
 pub returns : goal.returns
 returns c =
     c.put_report.ensures.text
-    ∙ ap (put_behind _) (report-is _ _ _ c.requires _ _ c.fresh.ensures c.play_out-played.ensures _ _ (rw c.from.ensures at c.counted.ensures))
+    ∙ ap (put_behind _) (report-is _ _ _ c.requires _ _ c.fresh.ensures c.play_out-played.ensures _ _ _ (rw c.from.ensures at c.counted.ensures) refl)
