@@ -2,7 +2,7 @@
 // the file, and at the end how many agree.
 #![tactic(auto)]
 
-ghost use Rattle.std.specs.Prelude.{◌≡◌, length, IfOk};
+ghost use Rattle.std.specs.Prelude.{◌≡◌, length, IfOk, IfSome};
 ghost use Rattle.input.specs.Within.{IsPrefixLen};
 
 use input::read_all;
@@ -60,8 +60,22 @@ fn read_file(rt: &HostRuntime, path: &str, file: &mut [u8]) -> io::Result<usize>
     read_all(&mut File::open(rt, path)?, file)
 }
 
-// A file that cannot be read whole is told, and has no entries. Where standard error fails too, nothing can be told. The room is lent, so
-// that there is one for all files.
+// A file that cannot be read whole is told. Where standard error fails too, nothing can be told. Not inlined: what telling needs of the stack
+// is not taken while entries are judged; so it is of `tell`.
+#[inline(never)]
+fn read_or_tell(rt: &HostRuntime, path: &str, file: &mut [u8]) -> Option<usize>
+    ensures { IfSome result (λ n. IsPrefixLen n file.new) }
+{
+    match read_file(rt, path, file) {
+        Ok(count) => Some(count),
+        Err(why) => {
+            let _ = eprintln!(rt; "{path}: {why}");
+            None
+        }
+    }
+}
+
+// A file that was not read has no entries. The room is lent, so that there is one for all files.
 fn run_file<F: Fn(&mut Parts) -> bool>(
     rt: &HostRuntime,
     path: &str,
@@ -70,13 +84,15 @@ fn run_file<F: Fn(&mut Parts) -> bool>(
 ) -> Tally
     requires { F.IsAlwaysCallable judge }
 {
-    match read_file(rt, path, file) {
-        Ok(count) => run_all(rt, path, &file[..count], judge),
-        Err(why) => {
-            let _ = eprintln!(rt; "{path}: {why}");
-            Tally { agree: 0, of: 0 }
-        }
+    match read_or_tell(rt, path, file) {
+        Some(count) => run_all(rt, path, &file[..count], judge),
+        None => Tally { agree: 0, of: 0 },
     }
+}
+
+#[inline(never)]
+fn tell(rt: &HostRuntime, plans: Tally, calls: Tally, long: Tally) {
+    let _ = println!(rt; "{plans} plans, {calls} calls, {long} calls of J and K agree");
 }
 
 fn main(rt: HostRuntime) {
@@ -84,5 +100,5 @@ fn main(rt: HostRuntime) {
     let plans = run_file(&rt, "plans.bin", &mut file, judge_plan);
     let calls = run_file(&rt, "calls.bin", &mut file, judge_call);
     let long = run_file(&rt, "J_and_K.bin", &mut file, judge_call);
-    let _ = println!(rt; "{plans} plans, {calls} calls, {long} calls of J and K agree");
+    tell(&rt, plans, calls, long);
 }
