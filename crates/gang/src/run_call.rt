@@ -3,6 +3,7 @@ ghost use Rattle.std.specs.Prelude.{◌≡◌};
 ghost use Rattle.run.specs.Call.{returned, answered};
 
 use run::call::run_call;
+use verdict::number_of;
 
 // n stations with their inputs, 8 bytes each, and an order of turns, a byte each; the answer takes 20 bytes a station.
 // Returns 0, or the refusal plus 100 times its place, and then the answer is untouched.
@@ -11,8 +12,5 @@ pub extern "C" fn gang_run(n: u64, inputs: &[u8], turns: &[u8], answer: &mut [u8
     ensures number { result ≡ returned n inputs.now turns.now answer.old }
     ensures bytes { answer.new ≡ answered n inputs.now turns.now answer.old }
 {
-    match run_call(n, inputs, turns, answer) {
-        Ok(()) => 0,
-        Err(refusal) => refusal.into(),
-    }
+    number_of(run_call(n, inputs, turns, answer))
 }

@@ -20,7 +20,7 @@ pub enum Refusal {
     UnwrittenLine { at: u16 },
 }
 
-// The number that is returned for it: the refusal plus 100 times its place.
+// Its number: the refusal plus 100 times its place.
 impl From<Refusal> for u32 {
     ghost from_gives = { λ refusal number. number ≡ number_of (Err refusal) };
 
@@ -33,5 +33,15 @@ impl From<Refusal> for u32 {
             Refusal::ShortAnswer => 5,
             Refusal::UnwrittenLine { at } => with_place(6, at),
         }
+    }
+}
+
+// The number that a call with this outcome returns: 0, or its refusal's.
+pub fn number_of(outcome: Result<(), Refusal>) -> u32
+    ensures { result ≡ number_of outcome }
+{
+    match outcome {
+        Ok(()) => 0,
+        Err(refusal) => refusal.into(),
     }
 }
