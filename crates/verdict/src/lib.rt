@@ -25,14 +25,15 @@ impl From<Refusal> for u32 {
     ghost from_gives = { λ refusal number. number ≡ number_of (Err refusal) };
 
     fn from(refusal: Refusal) -> u32 {
-        match refusal {
-            Refusal::BadStationCount => 1,
-            Refusal::BadInputBytes => 2,
-            Refusal::TooManyTurns => 3,
-            Refusal::BadTurn { at } => with_place(4, at),
-            Refusal::ShortAnswer => 5,
-            Refusal::UnwrittenLine { at } => with_place(6, at),
-        }
+        let (number, place) = match refusal {
+            Refusal::BadStationCount => (1, 0),
+            Refusal::BadInputBytes => (2, 0),
+            Refusal::TooManyTurns => (3, 0),
+            Refusal::BadTurn { at } => (4, at),
+            Refusal::ShortAnswer => (5, 0),
+            Refusal::UnwrittenLine { at } => (6, at),
+        };
+        with_place(number, place)
     }
 }
 
