@@ -3,13 +3,15 @@ use Prim.Native.Nat.{ℕ, zero, suc, ◌+◌, ◌-◌, ◌*◌, ◌/◌, ◌%◌
 use mathlib.Core.Path.{◌≡◌, refl, sym, ap, ◌∙◌}
 use mathlib.Core.List.{List, [], ◌∷◌, ◌++◌, append_assoc, append-nil}
 use native.Mathlib.Nat.{div-div-eq-div-mul, mul_comm, pow-succ'}
+use native.Mathlib.Decide.{dec_le}
 use native.Mathlib.Omega.{arith}
 use borrow.Author.Tests.{le-leb, lt-leb}
 use borrow.Rule.Slice.PartMut.{put_mid}
-use mathlib.Core.Bool.{and-false}
+use mathlib.Core.Bool.{Bool, true, false, cond, and-false}
 use lib.Dec.{leb}
 use lib.ListN.{length, get_or, take, drop, set, length-append, length-drop, drop_of_length-le}
 use lib.Seq.{take_at, drop_at, drop-drop}
+use Rattle.std.proofs.Common.{length-take-le}
 use Rattle.std.specs.Int.{w16, w64, bytes_low_first, to_le_bytes}
 use Rattle.method.specs.declared.Row.{Row}
 use Rattle.answer.specs.Bytes.{bytes_of}
@@ -126,4 +128,33 @@ pub answer-none : (n : ℕ) (rows : List Row) (was : List ℕ) → 16 < n → wa
 unfolding answer_in
 answer-none n rows was h = rw (lt-leb n 16 h)
 
-pub ruleset outcomes = (answer-told, answer-short, answer-none)
+-- ---- the first n of the rows at hand, where there are so many
+
+pub put-told : (n : ℕ) (rows : List Row) (was last : List ℕ) → n ≤ 16 → n ≤ length rows → 20 * n ≤ length was
+    → last ≡ answer_bytes (length (take n rows)) (take n rows) ++ drop (20 * length (take n rows)) was → last ≡ cond (leb n (length rows)) (answer_in n rows was) was
+put-told n rows was last h there room e =
+    let first : last ≡ answer_bytes n rows ++ drop (20 * n) was = e ∙ rw (length-take-le n rows there, answer-take n rows) in
+    rw (le-leb n (length rows) there) (answer-told n rows was last h room first)
+
+either : (b : Bool) (there was : List ℕ) → was ≡ there → was ≡ cond b there was
+either true there was e = e
+either false there was e = refl
+
+pub put-short : (n : ℕ) (rows : List Row) (was : List ℕ) → length was < 20 * n → was ≡ cond (leb n (length rows)) (answer_in n rows was) was
+put-short n rows was room = either _ _ _ (answer-short n rows was room)
+
+pub put-none : (n : ℕ) (rows : List Row) (was : List ℕ) → 16 < n → was ≡ cond (leb n (length rows)) (answer_in n rows was) was
+put-none n rows was h = either _ _ _ (answer-none n rows was h)
+
+pub put-few : (n : ℕ) (rows : List Row) (was : List ℕ) → length rows < n → was ≡ cond (leb n (length rows)) (answer_in n rows was) was
+put-few n rows was h = rw (lt-leb n (length rows) h)
+
+-- of all sixteen rows it is what the definition says, whatever n is
+pub sixteen_put : (n : ℕ) (rows : List Row) (was last : List ℕ) → length rows ≡ 16 → last ≡ cond (leb n (length rows)) (answer_in n rows was) was → last ≡ answer_in n rows was
+sixteen_put n rows was last sixteen e = go (dec_le n 16)
+  where
+    go : Dec (n ≤ 16) → last ≡ answer_in n rows was
+    go (yes h) = e ∙ rw (sixteen, le-leb n 16 h)
+    go (no h) = let more : 16 < n = omega arith in e ∙ rw (sixteen, lt-leb n 16 more) (answer-none n rows was more)
+
+pub ruleset outcomes = (put-told, put-short, put-none, put-few)

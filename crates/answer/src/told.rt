@@ -1,5 +1,5 @@
 // The rows as answer bytes, twenty each.
-ghost use Rattle.std.specs.Prelude.{◌≡◌, ◌++◌, ◌*◌, ◌≤◌, length, drop};
+ghost use Rattle.std.specs.Prelude.{◌≡◌, ◌++◌, ◌*◌, ◌≤◌, length, drop, nat_le, if◌then◌else◌};
 ghost use Rattle.answer.specs.Answer.{row_bytes, answer_bytes, answer_in};
 
 use super::shown::Shown;
@@ -33,12 +33,13 @@ fn put_rows(answer: &mut [u8], rows: &[Row])
     }
 }
 
-// Puts the rows into the answer; one that has no room for them stays as it was, and so it does where they are more than a run has.
+// Puts the first n rows into the answer; one that has no room for them stays as it was, and so it does where there are no n rows, or n is
+// more than a run has.
 #[tactic(auto, using(crate::proofs::Laid::outcomes))]
-pub fn put_answer(answer: &mut [u8], rows: &[Row])
-    ensures { answer.new ≡ answer_in (length rows.now) rows.now answer.old }
+pub fn put_answer(answer: &mut [u8], n: usize, rows: &[Row])
+    ensures { answer.new ≡ (if nat_le n (length rows.now) then answer_in n rows.now answer.old else answer.old) }
 {
-    if rows.len() <= STATIONS && ROW * rows.len() <= answer.len() {
-        put_rows(answer, rows);
+    if n <= STATIONS && n <= rows.len() && ROW * n <= answer.len() {
+        put_rows(answer, &rows[..n]);
     }
 }

@@ -5,8 +5,7 @@ use mathlib.Core.List.{List}
 use native.Mathlib.Nat.{le_antisymm, le_refl}
 use native.Mathlib.Omega.{arith}
 use borrow.Author.Tests.{lt-ltb, le-ltb}
-use Rattle.std.proofs.Common.{length-take-le}
-use lib.ListN.{length, get_or, take}
+use lib.ListN.{length, get_or}
 use Rattle.method.specs.declared.Run.{Run}
 use Rattle.method.specs.declared.Turned.{Turned}
 use Rattle.method.specs.Board.{levels, registers, fresh, fresh_on, row_of}
@@ -26,7 +25,7 @@ use Rattle.answer.specs.Answer.{answer_in}
 use Rattle.verdict.specs.Refusals.{number_of, first_bad, tests}
 use Rattle.run.specs.Call.{reads_unwritten, first_unwritten, begun, verdict_of, answer_for, answered}
 use Rattle.verdict.proofs.Judging.{Taken, taken, stations-named}
-use Rattle.answer.proofs.Laid.{answer-with-room, answer-take}
+use Rattle.answer.proofs.Laid.{answer-with-room}
 use Rattle.method.proofs.Firsts.{first-same, first-within}
 use Rattle.run.proofs.Little.{inputs-length}
 
@@ -100,16 +99,14 @@ module _ (n : ℕ) (inputs turns answer : List ℕ) (e : Ok tt ≡ tests n (leng
     unfolding verdict_of
     done h = rw (← e, ← at, le-ltb _ _ h)
 
-    pub done-answer : length turns ≤ out.at → (last : List ℕ) → last ≡ answer_in (length (take n out.run.rows)) (take n out.run.rows) answer → last ≡ answered n inputs turns answer
+    pub done-answer : length turns ≤ out.at → (last : List ℕ) → last ≡ answer_in n out.run.rows answer → last ≡ answered n inputs turns answer
     done-answer h last g =
         let end : stops_at (begun n inputs) turns ≡ length turns =
         le_antisymm (within (begun n inputs) turns) (rw (ap (λ (x : Played). x.at) played) at h) in
         let ran : out.run ≡ after (begun n inputs) turns (length turns) =
         ap (λ (x : Played). x.run) played ∙ ap (λ (u : ℕ). stepped (begun n inputs) turns u) end
         ∙ stepped-after n (inputs_in 16 inputs) turns t.high (inputs-length 16 inputs) t.few t.good (length turns) (le_refl (length turns)) in
-        let rows : length (after (begun n inputs) turns (length turns)).rows ≡ 16 = rows-there n (inputs_in 16 inputs) turns t.high (inputs-length 16 inputs) t.few t.good (length turns) in
-        let long : length (take n (after (begun n inputs) turns (length turns)).rows) ≡ n = length-take-le n (after (begun n inputs) turns (length turns)).rows (omega (arith, rows, t.high)) in
-        g ∙ rw (ran, long, answer-with-room n (take n (after (begun n inputs) turns (length turns)).rows) answer t.high t.wide, answer-take, ← done h)
+        g ∙ rw (ran, answer-with-room n (after (begun n inputs) turns (length turns)).rows answer t.high t.wide, ← done h)
 
 -- ---- a call that did not pass them
 
