@@ -117,7 +117,12 @@ refused-call n inputs turns answer r e = rw (← e)
 -- every number but 0 leaves the answer as it was
 untouched : (n : ℕ) (inputs turns answer : List ℕ) (v : Result (Unit {0}) Refusal) → (number_of v ≡ 0 → ⊥) → answer_for n inputs turns answer v ≡ answer
 untouched n inputs turns answer (Ok made) e = absurd (e refl)
-untouched n inputs turns answer (Err refusal) e = refl
+untouched n inputs turns answer (Err BadStationCount) e = refl
+untouched n inputs turns answer (Err BadInputBytes) e = refl
+untouched n inputs turns answer (Err TooManyTurns) e = refl
+untouched n inputs turns answer (Err (BadTurn _)) e = refl
+untouched n inputs turns answer (Err ShortAnswer) e = refl
+untouched n inputs turns answer (Err (UnwrittenLine _)) e = refl
 
 refused-number : (r : Refusal) → number_of (Err r) ≡ 0 → ⊥
 refused-number BadStationCount e = omega (arith, e)
