@@ -3,6 +3,7 @@ use super::parts::Parts;
 use page::PAGE;
 use report::whole::print_plan;
 use run::call::run_call;
+use verdict::number_of;
 
 // Room for the longest answer in the files, and more.
 const ANSWER: usize = 512;
@@ -53,7 +54,7 @@ impl<'a> Call<'a> {
         match room.get_mut(..self.answer.len()) {
             Some(answer) => {
                 let outcome = run_call(u64::from(self.stations), self.inputs, self.turns, answer);
-                outcome.err().map_or(0, u32::from) == self.number && &*answer == self.answer
+                number_of(outcome) == self.number && &*answer == self.answer
             }
             None => false,
         }
