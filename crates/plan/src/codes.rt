@@ -52,14 +52,23 @@ impl Codes {
         self.list.as_slice()
     }
 
-    // Whether the code is stock k, which has this key. Where the keys differ the bytes do.
+    // Whether the code is stock k. Not inlined: the search would carry a place in the table of codes beside the number k.
+    #[inline(never)]
+    fn has_at(&self, k: usize, code: &[u8]) -> bool
+        requires { k < length self.now }
+        ensures { result ≡ same code.now (get_or self.now k []) }
+    {
+        self.list.as_slice()[k].is(code)
+    }
+
+    // The same of a code with this key. Where the keys differ the bytes do.
     #[tactic(auto, using(crate::proofs::Keys::compared))]
     fn is_at(&self, k: usize, code: &[u8], key: u64) -> bool
         requires known { k < length self.now }
         requires key { key ≡ key_on 0 code.now }
         ensures { result ≡ same code.now (get_or self.now k []) }
     {
-        key == self.keys.as_slice()[k] && self.list.as_slice()[k].is(code)
+        key == self.keys.as_slice()[k] && self.has_at(k, code)
     }
 
     // The number of the code, if it is known. The loop counts, and the keys have an array of their own: among many stocks most of a
