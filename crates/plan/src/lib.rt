@@ -45,7 +45,8 @@ fn begun<'a>(text: &'a [u8]) -> Result<(u8, &'a [u8]), Refusal>
 }
 
 // Reads the lines behind the first, and hands out what they hold. What is in hand has its one place here: it is large, so it is never
-// moved, and a text that is refused at its first line does not make it.
+// moved, and a text that is refused at its first line does not make it. Not inlined: it is off the stack again while the plan is run.
+#[inline(never)]
 fn read_later(
     stations: u8,
     text: &[u8],

@@ -30,7 +30,8 @@ fn counted(rows: &[Row]) -> usize
 }
 
 impl Taken<'_> {
-    // Puts the report of its run.
+    // Puts the report of its run. Not inlined: what a run needs of the stack is not taken while a plan is read or a report written.
+    #[inline(never)]
     pub(super) fn put_report(&self, page: &mut Page)
         requires { Ready self.now.stations self.now.sets self.now.turns.now }
         ensures { page.new ≡ put_behind page.old (report self.now.stations self.now.sets (codes_of self.now.stocks) self.now.turns.now) }
