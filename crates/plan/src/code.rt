@@ -1,5 +1,5 @@
-// A code in hand. It stands in a cell, as the C interface hands it out: its bytes in front, and 0 behind them. So it holds no more than it is
-// made of, and a table of codes begins as zeros.
+// A code in hand. It stands in a cell, as the C interface hands it out: its bytes in front, and 0 behind them. A cell points nowhere, so a
+// table of codes begins as zeros, which is one fill.
 ghost use Rattle.std.specs.Prelude.{◌≡◌, ◌≤◌, length};
 ghost use Rattle.text.specs.Limits.{most_code};
 ghost use Rattle.text.specs.Text as Text;
@@ -10,7 +10,7 @@ use crate::buffers::put;
 use sets::limits::CODE;
 use std::marker::Model;
 
-// A code is seen as its bytes alone. These do not give the fields back, which a derived `==` needs, so `is` stands for it.
+// A code is seen as its bytes alone.
 #[derive(Drop, Default)]
 pub(super) struct Code {
     cell: [u8; CODE],
