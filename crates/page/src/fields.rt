@@ -12,7 +12,7 @@ use std::io::Write;
 use std::marker::Model;
 
 // What is printed so far. There is room for every report, so nothing says how much is left: what has no room is cut off, and in one
-// place it is proved that nothing is.
+// place it is proved that nothing is cut off a new page.
 #[derive(Drop)]
 pub struct Page {
     text: ArrayVec<u8, PAGE>,
