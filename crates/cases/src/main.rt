@@ -61,7 +61,7 @@ fn read_file(rt: &HostRuntime, path: &str, file: &mut [u8]) -> io::Result<usize>
 }
 
 // A file that cannot be read whole is told. Where standard error fails too, nothing can be told. Not inlined: what telling needs of the stack
-// is not taken while entries are judged; so it is of `tell`.
+// is not taken while entries are judged.
 #[inline(never)]
 fn read_or_tell(rt: &HostRuntime, path: &str, file: &mut [u8]) -> Option<usize>
     ensures { IfSome result (λ n. IsPrefixLen n file.new) }
@@ -90,6 +90,7 @@ fn run_file<F: Fn(&mut Parts) -> bool>(
     }
 }
 
+// How many entries of each file agree. Not inlined, for the same reason.
 #[inline(never)]
 fn tell(rt: &HostRuntime, plans: Tally, calls: Tally, long: Tally) {
     let _ = println!(rt; "{plans} plans, {calls} calls, {long} calls of J and K agree");

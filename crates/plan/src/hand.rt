@@ -7,7 +7,6 @@ ghost use Rattle.text.specs.Buffers.{padded, cells_of};
 ghost use Rattle.plan.specs.Outs.{out, all_read, Stepped, counts_held};
 
 use crate::buffers::{put_codes, put_turns};
-use crate::codes::Codes;
 use crate::line::{Fields, first_line, word};
 use crate::stocks::Stocks;
 use crate::turns::Turns;
@@ -44,10 +43,7 @@ impl Hand {
     {
         Hand {
             stations,
-            stocks: Stocks {
-                codes: Codes::new(),
-                sets: [0; STATIONS],
-            },
+            stocks: Stocks::new(),
             turns: Turns::new(),
         }
     }

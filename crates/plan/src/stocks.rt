@@ -26,6 +26,16 @@ impl Model for Stocks {
 }
 
 impl Stocks {
+    // No stock yet.
+    pub(super) fn new() -> Self
+        ensures { result ≡ stocked [] (replicate most_stations 0) }
+    {
+        Stocks {
+            codes: Codes::new(),
+            sets: [0; STATIONS],
+        }
+    }
+
     // The fields of a `HAS` line behind its word, where the plan is of so many stations.
     #[tactic(auto, unfolding(text::specs::Plan::has_line))]
     pub(super) fn has_line(&mut self, stations: u8, mut fields: Fields) -> Result<(), Fault>
