@@ -29,24 +29,30 @@ one-more n x v h =
 
 -- ---- cells
 
-module _ (x cell : List ℕ) (n : ℕ) (room : length x + most_code ≤ n) (long : length cell ≡ most_code) where
-  -- a whole cell into the place behind x
-  cell-more : (at : ℕ) → length x ≡ at → put_mid at most_code (padded n x) (cell ++ drop (length cell) (mid_of at most_code (padded n x))) ≡ padded n (x ++ cell)
+module _ (x c : List ℕ) (n : ℕ) (room : length x + most_code ≤ n) (short : length c ≤ most_code) where
+  cells_long : length (x ++ padded most_code c) ≡ length x + most_code
+  cells_long = omega (arith, length-append x (padded most_code c), padded-long most_code c short)
+
+  -- a code into the cell behind x
+  cell-more : (at : ℕ) → length x ≡ at → put_mid at most_code (padded n x) (c ++ drop (length c) (mid_of at most_code (padded n x))) ≡ padded n (x ++ padded most_code c)
   unfolding padded
   cell-more at e =
       let m : ℕ = n - length x in
-      let place : take most_code (zeros m) ≡ zeros most_code = take-replicate most_code m 0 (omega arith) in
-      let full : cell ++ zeros (most_code - length cell) ≡ cell = let z : most_code - length cell ≡ 0 = omega arith in rw z (append-nil cell) in
-      let rest : n - length (x ++ cell) ≡ m - most_code = omega (arith, length-append x cell) in
+      let cell : take most_code (zeros m) ≡ zeros most_code = take-replicate most_code m 0 (omega arith) in
+      let rest : n - length (x ++ padded most_code c) ≡ m - most_code = let l : length (x ++ padded most_code c) ≡ length x + most_code = cells_long in omega arith in
       rw (
         take_at x (zeros m) at e,
         drop_at x (zeros m) at e,
-        place,
-        drop-replicate {X = ℕ} (length cell) most_code 0,
-        full,
+        cell,
+        drop-replicate {X = ℕ} (length c) most_code 0,
         drop-replicate {X = ℕ} most_code m 0,
         rest,
-      ) (sym (append_assoc x cell (zeros (m - most_code))))
+      ) (sym (append_assoc x (c ++ zeros (most_code - length c)) (zeros (m - most_code))))
+
+-- a whole cell has no room behind it
+cell_full : (cell : List ℕ) → length cell ≡ most_code → padded most_code cell ≡ cell
+unfolding padded
+cell_full cell long = let none : most_code - length cell ≡ 0 = omega arith in rw none (append-nil cell)
 
 -- the cells of one code more
 cells-snoc : (cs : List (List ℕ)) (c : List ℕ) → cells_of (cs ++ (c ∷ [])) ≡ cells_of cs ++ padded most_code c
@@ -68,15 +74,30 @@ module _ (codes : List (List ℕ)) (k : ℕ) (c : List ℕ) (here : k < length c
   next = rw add-one (take-suc codes k d here ∙ ap (λ (b : List ℕ). take k codes ++ (b ∷ [])) (sym c_is))
 
   pub cells_filled : length (cells_of (take (k + 1) codes)) ≡ (k + 1) * most_code
-  cells_filled = omega (arith, ap (λ (l : List (List ℕ)). length (cells_of l)) next, ap length (cells-snoc (take k codes) c), length-append (cells_of (take k codes)) (padded most_code c), padded-long most_code c short)
+  cells_filled = omega (arith, ap (λ (l : List (List ℕ)). length (cells_of l)) next, ap length (cells-snoc (take k codes) c), cells_long (cells_of (take k codes)) c (most_stocks * most_code) (omega arith) short)
 
-  pub cells_more : (cells cell part : List ℕ) → cells ≡ padded (most_stocks * most_code) (cells_of (take k codes)) → cell ≡ padded most_code c
+  -- bytes that fill a cell as the code does, into the cell behind the filled ones
+  put_more : (b : List ℕ) → length b ≤ most_code → padded most_code b ≡ padded most_code c → (cells part : List ℕ) → cells ≡ padded (most_stocks * most_code) (cells_of (take k codes))
+      → part ≡ b ++ drop (length b) (mid_of (k * most_code) ((k + 1) * most_code - k * most_code) cells)
+      → put_mid (k * most_code) ((k + 1) * most_code - k * most_code) cells part ≡ padded (most_stocks * most_code) (cells_of (take (k + 1) codes))
+  put_more b few is cells part e h =
+      let twelve : (k + 1) * most_code - k * most_code ≡ most_code = omega arith in
+      let after : cells_of (take k codes) ++ padded most_code b ≡ cells_of (take (k + 1) codes) = rw is (sym (ap cells_of next ∙ cells-snoc (take k codes) c)) in
+      rw (h, twelve, e) (cell-more (cells_of (take k codes)) b (most_stocks * most_code) (omega arith) few (k * most_code) filled ∙ ap (padded (most_stocks * most_code)) after)
+
+  -- its bytes into their cell
+  pub cells_more : (cells part : List ℕ) → cells ≡ padded (most_stocks * most_code) (cells_of (take k codes))
+      → part ≡ c ++ drop (length c) (mid_of (k * most_code) ((k + 1) * most_code - k * most_code) cells)
+      → put_mid (k * most_code) ((k + 1) * most_code - k * most_code) cells part ≡ padded (most_stocks * most_code) (cells_of (take (k + 1) codes))
+  cells_more = put_more c short refl
+
+  -- the same where its whole cell is put
+  pub cells_whole : (cells cell part : List ℕ) → cells ≡ padded (most_stocks * most_code) (cells_of (take k codes)) → cell ≡ padded most_code c
       → part ≡ cell ++ drop (length cell) (mid_of (k * most_code) ((k + 1) * most_code - k * most_code) cells)
       → put_mid (k * most_code) ((k + 1) * most_code - k * most_code) cells part ≡ padded (most_stocks * most_code) (cells_of (take (k + 1) codes))
-  cells_more cells cell part e f h =
-      let twelve : (k + 1) * most_code - k * most_code ≡ most_code = omega arith in
-      let after : cells_of (take k codes) ++ padded most_code c ≡ cells_of (take (k + 1) codes) = sym (ap cells_of next ∙ cells-snoc (take k codes) c) in
-      rw (h, twelve, e, f) (cell-more (cells_of (take k codes)) (padded most_code c) (most_stocks * most_code) (omega arith) (padded-long most_code c short) (k * most_code) filled ∙ ap (padded (most_stocks * most_code)) after)
+  cells_whole cells cell part e f =
+      let long : length cell ≡ most_code = rw f (padded-long most_code c short) in
+      put_more cell (omega arith) (cell_full cell long ∙ f) cells part e
 
   pub lens_more : (lens : List ℕ) → lens ≡ padded most_stocks (map length (take k codes)) → set lens k (length c) ≡ padded most_stocks (map length (take (k + 1) codes))
   lens_more lens e =

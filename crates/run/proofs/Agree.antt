@@ -5,7 +5,8 @@ use mathlib.Core.List.{List}
 use native.Mathlib.Nat.{le_antisymm, le_refl}
 use native.Mathlib.Omega.{arith}
 use borrow.Author.Tests.{lt-ltb, le-ltb}
-use lib.ListN.{length, get_or}
+use Rattle.std.proofs.Common.{length-take-le}
+use lib.ListN.{length, get_or, take}
 use Rattle.method.specs.declared.Run.{Run}
 use Rattle.method.specs.declared.Turned.{Turned}
 use Rattle.method.specs.Board.{levels, registers, fresh, fresh_on, row_of}
@@ -25,7 +26,7 @@ use Rattle.answer.specs.Answer.{answer_in}
 use Rattle.verdict.specs.Refusals.{number_of, first_bad, tests}
 use Rattle.run.specs.Call.{reads_unwritten, first_unwritten, begun, verdict_of, answer_for, answered}
 use Rattle.verdict.proofs.Judging.{Taken, taken, stations-named}
-use Rattle.answer.proofs.Laid.{answer-with-room}
+use Rattle.answer.proofs.Laid.{answer-with-room, answer-take}
 use Rattle.method.proofs.Firsts.{first-same, first-within}
 use Rattle.run.proofs.Little.{inputs-length}
 
@@ -99,14 +100,23 @@ module _ (n : ℕ) (inputs turns answer : List ℕ) (e : Ok tt ≡ tests n (leng
     unfolding verdict_of
     done h = rw (← e, ← at, le-ltb _ _ h)
 
-    pub done-answer : length turns ≤ out.at → (last : List ℕ) → last ≡ answer_in n out.run.rows answer → last ≡ answered n inputs turns answer
-    done-answer h last g =
+    ran : length turns ≤ out.at → out.run ≡ after (begun n inputs) turns (length turns)
+    ran h =
         let end : stops_at (begun n inputs) turns ≡ length turns =
         le_antisymm (within (begun n inputs) turns) (rw (ap (λ (x : Played). x.at) played) at h) in
-        let ran : out.run ≡ after (begun n inputs) turns (length turns) =
         ap (λ (x : Played). x.run) played ∙ ap (λ (u : ℕ). stepped (begun n inputs) turns u) end
-        ∙ stepped-after n (inputs_in 16 inputs) turns t.high (inputs-length 16 inputs) t.few t.good (length turns) (le_refl (length turns)) in
-        g ∙ rw (ran, answer-with-room n (after (begun n inputs) turns (length turns)).rows answer t.high t.wide, ← done h)
+        ∙ stepped-after n (inputs_in 16 inputs) turns t.high (inputs-length 16 inputs) t.few t.good (length turns) (le_refl (length turns))
+
+    -- from all rows
+    pub done-rows : length turns ≤ out.at → (last : List ℕ) → last ≡ answer_in n out.run.rows answer → last ≡ answered n inputs turns answer
+    done-rows h last g = g ∙ rw (ran h, answer-with-room n (after (begun n inputs) turns (length turns)).rows answer t.high t.wide, ← done h)
+
+    -- from the first n
+    pub done-answer : length turns ≤ out.at → (last : List ℕ) → last ≡ answer_in (length (take n out.run.rows)) (take n out.run.rows) answer → last ≡ answered n inputs turns answer
+    done-answer h last g =
+        let rows : length out.run.rows ≡ 16 = ap (λ (x : Run). length x.rows) (ran h) ∙ rows-there n (inputs_in 16 inputs) turns t.high (inputs-length 16 inputs) t.few t.good (length turns) in
+        let long : length (take n out.run.rows) ≡ n = length-take-le n out.run.rows (omega (arith, rows, t.high)) in
+        done-rows h last (g ∙ rw (long, answer-with-room n (take n out.run.rows) answer t.high t.wide, answer-with-room n out.run.rows answer t.high t.wide, answer-take))
 
 -- ---- a call that did not pass them
 
@@ -136,4 +146,4 @@ pub refused-answer : (n : ℕ) (inputs turns answer : List ℕ) (r : Refusal) �
 refused-answer n inputs turns answer r e =
     rw (← refused-call n inputs turns answer r e, untouched n inputs turns answer (Err r) (refused-number r))
 
-pub ruleset outcomes = (stations-few, inputs-few, inputs-whole, turns-few, stopped, stopped-answer, done, done-answer, refused-call, refused-answer)
+pub ruleset outcomes = (stations-few, inputs-few, inputs-whole, turns-few, stopped, stopped-answer, done, done-rows, done-answer, refused-call, refused-answer)
