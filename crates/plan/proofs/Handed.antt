@@ -49,7 +49,7 @@ module _ (x c : List ℕ) (n : ℕ) (room : length x + most_code ≤ n) (short :
         rest,
       ) (sym (append_assoc x (c ++ zeros (most_code - length c)) (zeros (m - most_code))))
 
--- a whole cell has no room behind it
+-- a whole cell needs no zeros behind it
 cell_full : (cell : List ℕ) → length cell ≡ most_code → padded most_code cell ≡ cell
 unfolding padded
 cell_full cell long = let none : most_code - length cell ≡ 0 = omega arith in rw none (append-nil cell)
@@ -76,7 +76,7 @@ module _ (codes : List (List ℕ)) (k : ℕ) (c : List ℕ) (here : k < length c
   pub cells_filled : length (cells_of (take (k + 1) codes)) ≡ (k + 1) * most_code
   cells_filled = omega (arith, ap (λ (l : List (List ℕ)). length (cells_of l)) next, ap length (cells-snoc (take k codes) c), cells_long (cells_of (take k codes)) c (most_stocks * most_code) (omega arith) short)
 
-  -- bytes that fill a cell as the code does, into the cell behind the filled ones
+  -- into the next cell, bytes that fill it as the code does
   put_more : (b : List ℕ) → length b ≤ most_code → padded most_code b ≡ padded most_code c → (cells part : List ℕ) → cells ≡ padded (most_stocks * most_code) (cells_of (take k codes))
       → part ≡ b ++ drop (length b) (mid_of (k * most_code) ((k + 1) * most_code - k * most_code) cells)
       → put_mid (k * most_code) ((k + 1) * most_code - k * most_code) cells part ≡ padded (most_stocks * most_code) (cells_of (take (k + 1) codes))
@@ -85,13 +85,13 @@ module _ (codes : List (List ℕ)) (k : ℕ) (c : List ℕ) (here : k < length c
       let after : cells_of (take k codes) ++ padded most_code b ≡ cells_of (take (k + 1) codes) = rw is (sym (ap cells_of next ∙ cells-snoc (take k codes) c)) in
       rw (h, twelve, e) (cell-more (cells_of (take k codes)) b (most_stocks * most_code) (omega arith) few (k * most_code) filled ∙ ap (padded (most_stocks * most_code)) after)
 
-  -- its bytes into their cell
+  -- the code's own bytes
   pub cells_more : (cells part : List ℕ) → cells ≡ padded (most_stocks * most_code) (cells_of (take k codes))
       → part ≡ c ++ drop (length c) (mid_of (k * most_code) ((k + 1) * most_code - k * most_code) cells)
       → put_mid (k * most_code) ((k + 1) * most_code - k * most_code) cells part ≡ padded (most_stocks * most_code) (cells_of (take (k + 1) codes))
   cells_more = put_more c short refl
 
-  -- the same where its whole cell is put
+  -- the code's cell, whole
   pub cells_whole : (cells cell part : List ℕ) → cells ≡ padded (most_stocks * most_code) (cells_of (take k codes)) → cell ≡ padded most_code c
       → part ≡ cell ++ drop (length cell) (mid_of (k * most_code) ((k + 1) * most_code - k * most_code) cells)
       → put_mid (k * most_code) ((k + 1) * most_code - k * most_code) cells part ≡ padded (most_stocks * most_code) (cells_of (take (k + 1) codes))

@@ -100,6 +100,7 @@ module _ (n : ℕ) (inputs turns answer : List ℕ) (e : Ok tt ≡ tests n (leng
     unfolding verdict_of
     done h = rw (← e, ← at, le-ltb _ _ h)
 
+    -- what was played to the end is the run after every turn
     ran : length turns ≤ out.at → out.run ≡ after (begun n inputs) turns (length turns)
     ran h =
         let end : stops_at (begun n inputs) turns ≡ length turns =
@@ -107,11 +108,11 @@ module _ (n : ℕ) (inputs turns answer : List ℕ) (e : Ok tt ≡ tests n (leng
         ap (λ (x : Played). x.run) played ∙ ap (λ (u : ℕ). stepped (begun n inputs) turns u) end
         ∙ stepped-after n (inputs_in 16 inputs) turns t.high (inputs-length 16 inputs) t.few t.good (length turns) (le_refl (length turns))
 
-    -- from all rows
+    -- the answer of the rows that were played
     pub done-rows : length turns ≤ out.at → (last : List ℕ) → last ≡ answer_in n out.run.rows answer → last ≡ answered n inputs turns answer
     done-rows h last g = g ∙ rw (ran h, answer-with-room n (after (begun n inputs) turns (length turns)).rows answer t.high t.wide, ← done h)
 
-    -- from the first n
+    -- the same of the stations' rows alone
     pub done-answer : length turns ≤ out.at → (last : List ℕ) → last ≡ answer_in (length (take n out.run.rows)) (take n out.run.rows) answer → last ≡ answered n inputs turns answer
     done-answer h last g =
         let rows : length out.run.rows ≡ 16 = ap (λ (x : Run). length x.rows) (ran h) ∙ rows-there n (inputs_in 16 inputs) turns t.high (inputs-length 16 inputs) t.few t.good (length turns) in
